@@ -1,0 +1,155 @@
+-- What ties a view to the journal all along a run; each part of a call keeps it, and so does every call.
+use Prim.Native.Nat.{ℕ}
+use mathlib.Core.Path.{_≡_, refl, ap, ap₂, sym, _∙_, subst}
+use mathlib.Core.Bool.{false}
+use mathlib.Core.List.{List, [], _∷_, map}
+use native.Mathlib.Omega.{arith}
+use lib.ListN.{length, drop}
+use Rattle.rules.specs.Limits.{Keeps}
+use Rattle.rules.specs.Clock.{stepOf}
+use Rattle.rules.specs.Refusals.{NoneHolds}
+use Rattle.rules.proofs.Cases.{on-cond}
+use Rattle.model.specs.declared.Packet.{Packet}
+use Rattle.model.specs.declared.Control.{Control}
+use Rattle.model.specs.Queues.{each, column, change}
+use Rattle.model.specs.View.{View, fresh, withControl, Outcome}
+use Rattle.model.specs.Calls.{Call, words, count, offer, poll}
+use Rattle.model.specs.Effects.{moved, keep, cleared, atBack, joined, choice, closed, admitted, polled, effect}
+use Rattle.model.specs.Refusals.{checks}
+use Rattle.model.specs.Gate.{call}
+use Rattle.model.specs.Journal.{Line, Journal, opened, turned, allStruck, written, lowest, topOf, top, sentOf, fed}
+use Rattle.model.specs.Claims.{All, packetOf, atPoll, DepartsInTurn}
+use Rattle.model.proofs.Fours.{Fours}
+use Rattle.model.proofs.Window.{SpacedSoFar}
+use Rattle.model.proofs.Columns.{same-left, same-offer, choiceBy, same-choice}
+use Rattle.model.proofs.Turns.{Turn, turn-picked, turn-written, Own, LeavesInTurn, leaves-in-turn, expired-in-turn}
+use Rattle.model.proofs.Refusals.{on-call}
+use Rattle.model.proofs.SoundQueues.{Queued}
+use Rattle.model.proofs.Sound.{SoundView, cleared-sound, chosen-queued, passed-time}
+use Rattle.model.proofs.Gaps.{Newest, open-spaced}
+
+pub record Tied (v : View) (j : Journal) : Type 0 where
+  pub time : v .clock .time ≡ j .time
+  pub stamp : v .clock .stamp ≡ j .stamp
+  pub queues : v .queues ≡ each (map packetOf) (j .columns)
+  pub newest : Newest (v .last) (j .admissions)
+  pub spaced : SpacedSoFar (j .admissions)
+  pub turn : Turn (length (j .admissions)) (j .columns .c0)
+  pub departed : All DepartsInTurn (j .departures)
+
+pub fresh-tied : (profile stamp : ℕ) → Tied (fresh profile stamp) (opened stamp)
+fresh-tied profile stamp =
+    record { time = refl; stamp = refl; queues = refl; newest = refl; spaced = tt; turn = tt; departed = tt }
+
+-- the clock: the gate's step is the journal's
+step-turned : (v : View) (j : Journal) (stamp : ℕ) → Tied v j → moved v stamp .clock .time ≡ turned j stamp .time
+unfolding stepOf
+step-turned v j stamp i = rw (i .time, i .stamp) (omega arith)
+
+sampled-tied : (v : View) (j : Journal) (stamp : ℕ) (k : Control) → Tied v j → Tied (withControl (moved v stamp) k) (turned j stamp)
+sampled-tied v j stamp k i =
+    record {
+      time = step-turned v j stamp i;
+      stamp = refl;
+      queues = i .queues;
+      newest = i .newest;
+      spaced = i .spaced;
+      turn = i .turn;
+      departed = i .departed;
+    }
+
+-- expiry
+pub cleared-tied : (v : View) (j : Journal) (stamp : ℕ) → Tied v j → Tied (cleared v stamp) (atPoll j stamp)
+cleared-tied v j stamp i =
+    let e = step-turned v j stamp i in
+    record {
+      time = e;
+      stamp = refl;
+      queues = ap₂ (λ now q. each (keep now) q) e (i .queues) ∙ same-left (turned j stamp .time) (j .columns);
+      newest = i .newest;
+      spaced = i .spaced;
+      turn = turn-picked _ (length (j .admissions)) (j .columns .c0) (i .turn);
+      departed = expired-in-turn (allStruck (turned j stamp)) (j .departures) (i .departed);
+    }
+
+-- an offer
+joined-tied : (v : View) (j : Journal) (p : Packet) → Tied v j → Tied (joined v p .view) (written j p)
+joined-tied v j p i =
+    record {
+      time = i .time;
+      stamp = i .stamp;
+      queues = ap (change (p .priority) (atBack p)) (i .queues) ∙ same-offer (p .priority) _ (j .columns);
+      newest = i .newest;
+      spaced = i .spaced;
+      turn = turn-written (p .priority) (length (j .admissions)) p (j .columns) (i .turn);
+      departed = i .departed;
+    }
+
+-- a poll: what the gate chooses is what the journal has on top
+pub chosen-lowest : (v : View) (j : Journal) → Tied v j
+    → choice (v .queues) ≡ choiceBy (j .columns) (column (lowest (j .columns)) (j .columns))
+chosen-lowest v j i = ap choice (i .queues) ∙ same-choice (j .columns)
+
+own-first : (profile now n : ℕ) (ls : List Line) → Queued profile now n (map packetOf ls) → Own n ls
+own-first profile now n [] h = tt
+own-first profile now n (l ∷ ls) h = h .order .0 .own
+
+module _ (v : View) (j : Journal) (i : Tied v j) (h : SoundView v) (k : Keeps (v .control .profile)) where
+  leaves : LeavesInTurn (length (j .admissions)) (j .columns) (column (lowest (j .columns)) (j .columns))
+  leaves =
+      let q : Fours (Queued (v .control .profile) (v .clock .time)) (each (map packetOf) (j .columns)) = rw (i .queues) at (h .queues) in
+      leaves-in-turn (length (j .admissions)) (j .columns) (i .turn) (own-first _ _ 1 (j .columns .c1) (q .1))
+      (own-first _ _ 2 (j .columns .c2) (q .2)) (own-first _ _ 3 (j .columns .c3) (q .3))
+
+  abbrev afterSent : Line → View
+  afterSent l = admitted v (l .packet) (each (map packetOf) (change (lowest (j .columns)) (drop 1) (j .columns)))
+
+  sent-tied : (l : Line) (ls : List Line) → column (lowest (j .columns)) (j .columns) ≡ l ∷ ls → closed v ≡ false
+      → Tied (afterSent l) (sentOf j (top (j .columns)))
+  sent-tied l ls e ready =
+      let chosen = rw (chosen-lowest v j i, e) at (chosen-queued v h) in
+      let turn = rw e at leaves in
+      subst (λ (c : List Line). Tied (afterSent l) (sentOf j (topOf c))) (sym e)
+      (record {
+        time = i .time;
+        stamp = i .stamp;
+        queues = refl;
+        newest = (refl, omega (arith, i .time), refl);
+        spaced = (
+          k .alone (l .packet .ontime) (chosen .2 .order .0 .ontime),
+          rw (i .time) at (open-spaced v k (j .admissions) h (i .newest) (i .spaced) ready),
+        );
+        turn = turn .1;
+        departed = (turn .0, i .departed);
+      })
+
+-- every call
+abbrev Kept : Journal → Call → Outcome → Type 0
+Kept j c o = Tied (o .view) (fed j (record { call = c; answer = o .answer }))
+
+polled-kept : (v : View) (j : Journal) (stamp : ℕ) (ls : List Line) → Tied (cleared v stamp) (atPoll j stamp) → SoundView (cleared v stamp)
+    → Keeps (v .control .profile) → column (lowest (atPoll j stamp .columns)) (atPoll j stamp .columns) ≡ ls
+    → Kept j (poll stamp) (polled (cleared v stamp) (choiceBy (atPoll j stamp .columns) ls))
+polled-kept v j stamp [] i h k e = i
+polled-kept v j stamp (l ∷ ls) i h k e =
+    on-cond (Kept j (poll stamp)) (closed (cleared v stamp)) (λ u. i)
+    (λ u. sent-tied (cleared v stamp) (atPoll j stamp) i h k l ls e u)
+
+effect-kept : (v : View) (j : Journal) (c : Call) → SoundView v → Keeps (v .control .profile) → Tied v j → NoneHolds (checks v c)
+    → Kept j c (effect v c)
+unfolding effect
+effect-kept v j (words stamp ws) h k i n = sampled-tied v j stamp _ i
+effect-kept v j (count stamp busy) h k i n = sampled-tied v j stamp _ i
+effect-kept v j (offer stamp id priority ontime lifetime) h k i n =
+    let new : ℕ → Packet = λ at. record { id = id; priority = priority; ontime = ontime; lifetime = lifetime; arrival = at } in
+    subst (λ (at : ℕ). Tied (joined (cleared v stamp) (new (moved v stamp .clock .time)) .view) (written (atPoll j stamp) (new at)))
+    (step-turned v j stamp i)
+    (joined-tied (cleared v stamp) (atPoll j stamp) (new (moved v stamp .clock .time)) (cleared-tied v j stamp i))
+effect-kept v j (poll stamp) h k i n =
+    let w = cleared-tied v j stamp i in
+    rw (chosen-lowest (cleared v stamp) (atPoll j stamp) w)
+    (polled-kept v j stamp _ w (cleared-sound v stamp (passed-time v (poll stamp) n) h) k refl)
+
+pub call-tied : (v : View) (j : Journal) (c : Call) → SoundView v → Keeps (v .control .profile) → Tied v j
+    → Tied (call v c .view) (fed j (record { call = c; answer = call v c .answer }))
+call-tied v j c h k i = on-call (Kept j c) v c (effect-kept v j c h k i) (λ n. i)

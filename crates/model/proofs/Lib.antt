@@ -1,0 +1,18 @@
+-- Demand 3, from its parts up: windows, columns and turns by themselves; refusals; sound views; what ties a view to the
+-- journal; runs. Last, the definitions run on document 01's examples.
+pub mod Cases
+pub mod Tests
+pub mod Fours
+pub mod Window
+pub mod Columns
+pub mod Turns
+pub mod Refusals
+pub mod Profile
+pub mod SoundQueues
+pub mod Sound
+pub mod Gaps
+pub mod Invariant
+pub mod KeepsSound
+pub mod Runs
+pub mod Demand3
+pub mod SampleLog

@@ -1,0 +1,78 @@
+-- A call is either refused, and then nothing is changed, or passes every check of its table, and then it is its effect.
+-- No effect is a refusal, so the answer tells which.
+use Prim.Native.Nat.{ℕ, _<_}
+use mathlib.Core.Path.{_≡_, refl, _∙_}
+use mathlib.Core.Bool.{true, false}
+use native.Mathlib.Omega.{arith}
+use lib.Dec.{eqb}
+use borrow.Author.Tests.{eqb-true, eqb-false}
+use Rattle.rules.specs.Refusals.{firstOf, FirstHolds, NoneHolds}
+use Rattle.rules.proofs.Cases.{on-cond}
+use Rattle.rules.proofs.Refusals.{Numbered, first-of, of-first, first-numbered, of-none}
+use Rattle.model.specs.declared.Answer.the-variants.{Refused}
+use Rattle.model.specs.Answers.{isRefused}
+use Rattle.model.specs.View.{View, Outcome, gives}
+use Rattle.model.specs.Calls.{Call, words, count, offer, poll}
+use Rattle.model.specs.Effects.{Choice, nothing, chosen, choice, closed, cleared, polled, effect}
+use Rattle.model.specs.Refusals.{checks}
+use Rattle.model.specs.Gate.{call, RefusalsChangeNothing, RefusalsAreExact}
+use Rattle.model.proofs.Cases.{clash}
+
+-- no effect is a refusal
+abbrev Accepts : Outcome → Type 0
+Accepts o = isRefused (o .answer) ≡ false
+
+polled-accepts : (v : View) (c : Choice) → Accepts (polled v c)
+polled-accepts v nothing = refl
+polled-accepts v (chosen p left) = on-cond Accepts (closed v) (λ e. refl) (λ e. refl)
+
+pub effect-accepts : (v : View) (c : Call) → isRefused (effect v c .answer) ≡ false
+unfolding effect
+effect-accepts v (words stamp ws) = refl
+effect-accepts v (count stamp busy) = refl
+effect-accepts v (offer stamp id priority ontime lifetime) = refl
+effect-accepts v (poll stamp) = polled-accepts (cleared v stamp) (choice (cleared v stamp .queues))
+
+pub refusals-change-nothing : RefusalsChangeNothing
+unfolding call
+refusals-change-nothing v c =
+    on-cond (λ (o : Outcome). isRefused (o .answer) ≡ true → o .view ≡ v) (eqb (firstOf (checks v c)) 0)
+    (λ e r. clash (cc (effect-accepts v c)))
+    (λ e r. cc)
+
+-- no check has the number 0
+numbered : (v : View) (c : Call) → Numbered (checks v c)
+unfolding checks
+numbered v (words stamp ws) = omega arith
+numbered v (count stamp busy) = omega arith
+numbered v (offer stamp id priority ontime lifetime) = omega arith
+numbered v (poll stamp) = omega arith
+
+abbrev Exactly : View → Call → ℕ → Outcome → Type 0
+Exactly v c n o = (o .answer ≡ Refused n → FirstHolds n (checks v c)) × (FirstHolds n (checks v c) → o .answer ≡ Refused n)
+
+positive : (n : ℕ) → (n ≡ 0 → ⊥) → 0 < n
+positive n h = omega arith
+
+pub refusals-are-exact : RefusalsAreExact
+unfolding call
+refusals-are-exact v c n =
+    on-cond (Exactly v c n) (eqb (firstOf (checks v c)) 0)
+    (λ e. (
+      λ r. clash (cc (effect-accepts v c)),
+      λ h. absurd (omega (arith, eqb-true, first-of n (checks v c) h, first-numbered n (checks v c) (numbered v c) h)),
+    ))
+    (λ e. (
+      λ r. let same : firstOf (checks v c) ≡ n = cc in
+          of-first n (checks v c) (positive n (λ z. eqb-false _ _ e (same ∙ z))) same,
+      λ h. cc (first-of n (checks v c) h),
+    ))
+
+-- what holds of the effect, where every check is passed, and of a refusal that changes nothing, holds of the call
+pub on-call : (P : Outcome → Type 0) (v : View) (c : Call) → (NoneHolds (checks v c) → P (effect v c))
+    → ((n : ℕ) → P (gives v (Refused n))) → P (call v c)
+unfolding call
+on-call P v c f g =
+    on-cond P (eqb (firstOf (checks v c)) 0)
+    (λ e. f (of-none (checks v c) (numbered v c) (eqb-true _ _ e)))
+    (λ e. g _)

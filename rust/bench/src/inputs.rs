@@ -1,0 +1,59 @@
+//! Random numbers that no call refuses, made before anything is timed. The same in every run.
+
+/// Inputs for each call: more than a branch predictor learns by heart.
+const INPUTS: usize = 1 << 15;
+
+/// A small generator (xorshift).
+struct Draw(u64);
+
+impl Draw {
+    /// A number from `low` to `high`.
+    fn between(&mut self, low: u32, high: u32) -> u32 {
+        self.0 ^= self.0 << 13;
+        self.0 ^= self.0 >> 7;
+        self.0 ^= self.0 << 17;
+        low + ((self.0 >> 32) % u64::from(high - low + 1)) as u32
+    }
+
+    fn load(&mut self) -> u32 {
+        self.between(0, 1_000_000)
+    }
+
+    fn duty(&mut self) -> u32 {
+        self.between(600_000, 30_000_000)
+    }
+}
+
+fn many<const N: usize>(one: impl Fn(&mut Draw) -> [u32; N]) -> Vec<[u32; N]> {
+    let mut draw = Draw(0x9E37_79B9_7F4A_7C15);
+    (0..INPUTS).map(|_| one(&mut draw)).collect()
+}
+
+/// Profile and load.
+pub fn wanted_level() -> Vec<[u32; 2]> {
+    many(|draw| [draw.between(1, 2), draw.load()])
+}
+
+/// Profile, load and level.
+pub fn level_step() -> Vec<[u32; 3]> {
+    many(|draw| [draw.between(1, 2), draw.load(), draw.between(0, 4)])
+}
+
+/// Duty and three loads.
+pub fn duty_update() -> Vec<[u32; 4]> {
+    many(|draw| [draw.duty(), draw.load(), draw.load(), draw.load()])
+}
+
+/// Profile, level, duty and an on-time that the profile allows.
+pub fn wait() -> Vec<[u32; 4]> {
+    many(|draw| {
+        let profile = draw.between(1, 3);
+        let most_ontime = [1_000, 500, 4_000][profile as usize - 1];
+        [
+            profile,
+            draw.between(0, 4),
+            draw.duty(),
+            draw.between(1, most_ontime),
+        ]
+    })
+}

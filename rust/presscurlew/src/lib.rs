@@ -1,0 +1,15 @@
+//! A proved transmit gate for a shared 5.9 GHz radio channel.
+//!
+//! This package is safe Rust over the archives that the Rattle crates are compiled to. What the proofs
+//! say, and what they assume, stands in the repository's README.
+//!
+//! - [`rules`]: the gate's rules on plain numbers
+//! - [`sys`]: the archive's calls as C sees them
+//!
+//! Times are whole microseconds (µs), duty is in parts per 1,000,000,000 and load in parts per 1,000,000.
+
+#![deny(missing_docs)]
+#![deny(unsafe_code)]
+
+pub mod rules;
+pub mod sys;

@@ -1,0 +1,331 @@
+//! The run's book ("A run and its book"), and the check of demand 3 over it.
+//!
+//! The book is fed each call's arguments and answer and nothing from the
+//! state. It uses none of the gate's rules: its clock and its expiries are
+//! written out again here. What it checks after every call:
+//!
+//! 1. The ceiling: over any window of W µs, closed at both ends,
+//!    100 × air time admitted is at most 3 × W + 400,000.
+//! 2. The floor: an accepted poll that finds an unexpired packet when every
+//!    earlier admission is 1,000,000 µs or more before sends.
+//! 3. SENT never comes with all columns empty, and carries the packet struck.
+//! 4. A packet of priority 0 still there has seen at most k admissions.
+//! 5. IDLE comes exactly if all columns are empty.
+//!
+//! How often a gate refuses, and how many µs a CLOSED says, is not the book's
+//! matter.
+
+use std::collections::VecDeque;
+
+pub use crate::calls::{Answer, Call};
+use crate::state::Packet;
+
+/// The ceiling's part that does not grow with the window.
+pub const CEILING_BASE: i128 = 400_000;
+/// The ceiling's part for each µs of the window.
+pub const CEILING_SLOPE: i128 = 3;
+/// An admission this many µs ago no longer keeps a poll from sending.
+pub const FLOOR: u64 = 1_000_000;
+
+/// A packet in a column.
+#[derive(Clone, Copy, Debug, PartialEq, Eq)]
+pub struct Entry {
+    /// The packet, its arrival the book's time when it was written.
+    pub packet: Packet,
+    /// k: how many stood above it when it was written.
+    pub above: u64,
+    /// How many admissions the run had had by then.
+    pub admissions_before: u64,
+}
+
+/// How near a run came to what demand 3 forbids.
+#[derive(Clone, Copy, Debug, Default, PartialEq, Eq)]
+pub struct Closest {
+    /// The smallest of 3 × W + 400,000 − 100 × air time over all windows.
+    pub smallest_slack: Option<i128>,
+    /// The shortest time between two admissions.
+    pub shortest_gap: Option<u64>,
+    /// The longest time from the last admission to a poll that sent.
+    pub longest_gap: Option<u64>,
+    /// The longest time from the last admission to a poll that said CLOSED.
+    pub latest_closed: Option<u64>,
+    /// The most admissions that a priority-0 packet still there has seen.
+    pub most_seen: u64,
+}
+
+/// The book of one run.
+#[derive(Clone, Debug)]
+pub struct Book {
+    time: u64,
+    stamp: u32,
+    columns: [VecDeque<Entry>; 4],
+    offers: u64,
+    admissions: u64,
+    expiries: u64,
+    last_admission: Option<u64>,
+    heaviest: i128,
+    closest: Closest,
+}
+
+impl Book {
+    /// The book after a make that wasn't refused, with make's stamp.
+    pub fn new(stamp: u32) -> Book {
+        Book {
+            time: 0,
+            stamp,
+            columns: Default::default(),
+            offers: 0,
+            admissions: 0,
+            expiries: 0,
+            last_admission: None,
+            heaviest: 0,
+            closest: Closest::default(),
+        }
+    }
+
+    /// The book's time.
+    pub fn time(&self) -> u64 {
+        self.time
+    }
+
+    /// The stamp of the last accepted call.
+    pub fn stamp(&self) -> u32 {
+        self.stamp
+    }
+
+    /// The four columns, the top packet first.
+    pub fn columns(&self) -> &[VecDeque<Entry>; 4] {
+        &self.columns
+    }
+
+    /// How many packets were written.
+    pub fn offers(&self) -> u64 {
+        self.offers
+    }
+
+    /// How many packets were admitted.
+    pub fn admissions(&self) -> u64 {
+        self.admissions
+    }
+
+    /// How many packets left by expiry.
+    pub fn expiries(&self) -> u64 {
+        self.expiries
+    }
+
+    /// The time of the last admission.
+    pub fn last_admission(&self) -> Option<u64> {
+        self.last_admission
+    }
+
+    /// How near the run has come to what demand 3 forbids.
+    pub fn closest(&self) -> Closest {
+        self.closest
+    }
+
+    /// Feeds one call and its answer. An error says what part of demand 3 the
+    /// answer breaks; the run then has no claim left, and the book no use.
+    pub fn feed(&mut self, call: &Call, answer: &Answer) -> Result<(), String> {
+        if let Answer::Refused(_) = answer {
+            return Ok(());
+        }
+        self.move_clock(call.stamp());
+        match call {
+            Call::SampleWords { .. } | Call::SampleCount { .. } => taken(answer),
+            Call::Offer { .. } => {
+                taken(answer)?;
+                self.strike_expired();
+                self.write(call)
+            }
+            Call::Poll { .. } => {
+                self.strike_expired();
+                self.judge_poll(answer)
+            }
+        }
+    }
+
+    /// The step from the book's stamp to the call's is added to the time.
+    fn move_clock(&mut self, stamp: u32) {
+        let step = stamp.wrapping_sub(self.stamp);
+        self.time += u64::from(step);
+        self.stamp = stamp;
+    }
+
+    /// Strikes each packet whose time since its offer is at least its lifetime.
+    fn strike_expired(&mut self) {
+        let time = self.time;
+        for column in &mut self.columns {
+            let before = column.len();
+            column.retain(|entry| {
+                let age = time - entry.packet.arrival;
+                age < u64::from(entry.packet.lifetime)
+            });
+            self.expiries += (before - column.len()) as u64;
+        }
+    }
+
+    /// Writes an offer's packet at the foot of its priority's column.
+    fn write(&mut self, call: &Call) -> Result<(), String> {
+        let Call::Offer {
+            id,
+            priority,
+            ontime,
+            lifetime,
+            ..
+        } = *call
+        else {
+            return Err("only an offer is written".to_string());
+        };
+        let arrival = self.time;
+        let packet = Packet {
+            id,
+            priority,
+            ontime,
+            lifetime,
+            arrival,
+        };
+        let Some(column) = self.columns.get_mut(priority as usize) else {
+            return Err(format!(
+                "TAKEN for priority {priority}, which has no column"
+            ));
+        };
+        column.push_back(Entry {
+            packet,
+            above: column.len() as u64,
+            admissions_before: self.admissions,
+        });
+        self.offers += 1;
+        Ok(())
+    }
+
+    /// Judges the answer of an accepted poll, the expired packets struck.
+    fn judge_poll(&mut self, answer: &Answer) -> Result<(), String> {
+        let found = self.columns.iter().any(|column| !column.is_empty());
+        match answer {
+            Answer::Sent(packet) => self.admit(packet),
+            Answer::Idle if found => Err("IDLE with a packet in a column".to_string()),
+            Answer::Idle => Ok(()),
+            Answer::Closed(_) if !found => Err("CLOSED with all columns empty".to_string()),
+            Answer::Closed(_) => self.closed(),
+            _ => Err(format!("a poll answered {answer:?}")),
+        }
+    }
+
+    /// The floor: CLOSED needs an admission less than 1,000,000 µs ago. The
+    /// last admission is the nearest, so it alone is looked at.
+    fn closed(&mut self) -> Result<(), String> {
+        let Some(last) = self.last_admission else {
+            return Err("floor: CLOSED before any admission".to_string());
+        };
+        let passed = self.time - last;
+        if passed >= FLOOR {
+            return Err(format!(
+                "floor: CLOSED {passed} µs after the last admission"
+            ));
+        }
+        self.closest.latest_closed = self.closest.latest_closed.max(Some(passed));
+        Ok(())
+    }
+
+    /// SENT: strikes the top packet of the lowest-numbered non-empty column.
+    fn admit(&mut self, sent: &Packet) -> Result<(), String> {
+        let lowest = self.columns.iter_mut().find(|column| !column.is_empty());
+        let Some(struck) = lowest.and_then(VecDeque::pop_front) else {
+            return Err("SENT with all columns empty".to_string());
+        };
+        if struck.packet != *sent {
+            return Err(format!("SENT {sent:?}, struck {:?}", struck.packet));
+        }
+        self.admissions += 1;
+        self.weigh(struck.packet.ontime)?;
+        self.look_at_priority_0()
+    }
+
+    /// The ceiling, at an admission now.
+    ///
+    /// Windows that start and end at an admission are enough: any other window
+    /// shrinks to its first and last admission, which keeps its air time and
+    /// makes W no longer; a window without an admission has no air time.
+    ///
+    /// Of the windows that end at this admission, `heaviest` is the greatest
+    /// 100 × air time − 3 × W. Such a window is this admission alone, W = 0, or
+    /// one that ended at the admission before, made longer by the gap. So the
+    /// greatest is this admission's own 100 × on-time, plus the greatest of
+    /// before less 3 × gap where that is above 0. This is exact, and no older
+    /// admission has to be remembered.
+    fn weigh(&mut self, ontime: u32) -> Result<(), String> {
+        let mut carried = 0;
+        if let Some(last) = self.last_admission {
+            let gap = self.time - last;
+            carried = self.heaviest - CEILING_SLOPE * i128::from(gap);
+            self.note_gap(gap);
+        }
+        self.heaviest = 100 * i128::from(ontime) + carried.max(0);
+        self.last_admission = Some(self.time);
+        let slack = CEILING_BASE - self.heaviest;
+        let smallest = self.closest.smallest_slack;
+        self.closest.smallest_slack = Some(smallest.map_or(slack, |old| old.min(slack)));
+        if slack < 0 {
+            return Err(format!("ceiling: passed by {} at {}", -slack, self.time));
+        }
+        Ok(())
+    }
+
+    /// Notes the time between two admissions.
+    fn note_gap(&mut self, gap: u64) {
+        let closest = &mut self.closest;
+        closest.shortest_gap = Some(closest.shortest_gap.map_or(gap, |old| old.min(gap)));
+        closest.longest_gap = Some(closest.longest_gap.map_or(gap, |old| old.max(gap)));
+    }
+
+    /// A packet of priority 0 still there has seen at most k admissions. The
+    /// run may end after any call, so this is looked at after each admission.
+    fn look_at_priority_0(&mut self) -> Result<(), String> {
+        for entry in &self.columns[0] {
+            let seen = self.admissions - entry.admissions_before;
+            self.closest.most_seen = self.closest.most_seen.max(seen);
+            if seen > entry.above {
+                let (id, above) = (entry.packet.id, entry.above);
+                return Err(format!("priority 0: {id}, {above} above it, saw {seen}"));
+            }
+        }
+        Ok(())
+    }
+}
+
+/// An accepted sample or offer answers TAKEN.
+fn taken(answer: &Answer) -> Result<(), String> {
+    match answer {
+        Answer::Taken => Ok(()),
+        _ => Err(format!("a sample or an offer answered {answer:?}")),
+    }
+}
+
+#[cfg(test)]
+mod tests {
+    use super::*;
+
+    /// The book strikes from column 0 first, so no list of calls and answers
+    /// reaches this error; the check itself is tried on a page with a wrong k.
+    #[test]
+    fn a_priority_0_packet_that_saw_too_much_is_rejected() {
+        let mut book = Book::new(0);
+        for id in [1, 2] {
+            let (priority, ontime, lifetime, stamp) = (0, 1, 9, 0);
+            let offer = Call::Offer {
+                id,
+                priority,
+                ontime,
+                lifetime,
+                stamp,
+            };
+            book.feed(&offer, &Answer::Taken).unwrap();
+        }
+        let sent = Answer::Sent(book.columns[0][0].packet);
+        let poll = Call::Poll { stamp: 0 };
+        book.clone().feed(&poll, &sent).unwrap();
+        book.columns[0][1].above = 0;
+        let said = book.feed(&poll, &sent).unwrap_err();
+        assert!(said.contains("priority 0"));
+    }
+}

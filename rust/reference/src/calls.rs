@@ -1,0 +1,90 @@
+//! A call on the state, and the answer to a call.
+
+use crate::state::Packet;
+
+/// "Refusal numbers": profile not 1 to 3.
+pub const BAD_PROFILE: u32 = 1;
+/// "Refusal numbers": step of 2,147,483,648 or more.
+pub const CLOCK_BACK: u32 = 2;
+/// "Refusal numbers": running time would pass 10^15.
+pub const CLOCK_END: u32 = 3;
+/// "Refusal numbers": not a sample.
+pub const BAD_SAMPLE: u32 = 4;
+/// "Refusal numbers": priority above 3.
+pub const BAD_PRIORITY: u32 = 5;
+/// "Refusal numbers": on-time not allowed by the profile.
+pub const BAD_ON_TIME: u32 = 6;
+/// "Refusal numbers": lifetime 0 or above 60,000,000.
+pub const BAD_LIFETIME: u32 = 7;
+/// "Refusal numbers": 5 unexpired packets wait in that queue at the new time.
+pub const QUEUE_FULL: u32 = 8;
+/// "Refusal numbers": the state isn't sound.
+pub const NO_STATE: u32 = 9;
+/// "Refusal numbers": log record kind above 3.
+pub const BAD_KIND: u32 = 10;
+
+/// A call on the state: everything but make.
+#[derive(Clone, Debug, PartialEq, Eq)]
+pub enum Call {
+    /// A sample by words.
+    SampleWords {
+        /// The words lent; a good sample has 16.
+        words: Vec<u64>,
+        /// The radio's count.
+        stamp: u32,
+    },
+    /// A sample by busy count.
+    SampleCount {
+        /// The number of busy probes.
+        busy: u32,
+        /// The radio's count.
+        stamp: u32,
+    },
+    /// An offer of one packet.
+    Offer {
+        /// The packet's identifier.
+        id: u32,
+        /// The packet's priority.
+        priority: u32,
+        /// The packet's on-time in µs.
+        ontime: u32,
+        /// The packet's lifetime in µs.
+        lifetime: u32,
+        /// The radio's count.
+        stamp: u32,
+    },
+    /// A poll.
+    Poll {
+        /// The radio's count.
+        stamp: u32,
+    },
+}
+
+impl Call {
+    /// The stamp of the call.
+    pub fn stamp(&self) -> u32 {
+        match *self {
+            Call::SampleWords { stamp, .. } => stamp,
+            Call::SampleCount { stamp, .. } => stamp,
+            Call::Offer { stamp, .. } => stamp,
+            Call::Poll { stamp } => stamp,
+        }
+    }
+}
+
+/// The answer to a call.
+#[derive(Clone, Copy, Debug, PartialEq, Eq)]
+pub enum Answer {
+    /// A make gave a fresh state.
+    Ready,
+    /// An offer or a sample was taken.
+    Taken,
+    /// A poll sent this packet.
+    Sent(Packet),
+    /// A poll found nothing waiting.
+    Idle,
+    /// A poll found the gate closed for so many µs.
+    Closed(u64),
+    /// The call was refused with this number.
+    Refused(u32),
+}

@@ -1,0 +1,233 @@
+//! Make, sample, offer and poll ("State and calls" to "Waiting and leaving").
+//!
+//! Each call takes the state and hands the next one back with the answer. A
+//! refusal hands the given state back unchanged, clock included.
+
+pub use crate::calls::{Answer, Call};
+use crate::calls::{
+    BAD_LIFETIME, BAD_ON_TIME, BAD_PRIORITY, BAD_PROFILE, BAD_SAMPLE, CLOCK_BACK, CLOCK_END,
+    NO_STATE, QUEUE_FULL,
+};
+use crate::rules;
+use crate::state::{sound, Packet, Queue, State, QUEUES, SLOTS};
+
+/// Makes a fresh state; a refusal hands back the all-zero, not live one.
+pub fn make(profile: u32, stamp: u32) -> (State, Answer) {
+    if rules::profile_known(profile) {
+        (State::fresh(profile, stamp), Answer::Ready)
+    } else {
+        (State::default(), Answer::Refused(BAD_PROFILE))
+    }
+}
+
+/// A sample by words.
+pub fn sample_words(state: State, words: &[u64], stamp: u32) -> (State, Answer) {
+    sample(state, rules::load_of_words(words), stamp)
+}
+
+/// A sample by busy count.
+pub fn sample_count(state: State, busy: u32, stamp: u32) -> (State, Answer) {
+    sample(state, rules::load_of_count(busy), stamp)
+}
+
+/// An offer of one packet: 9, 2, 3, 5, 6, 7, 8, else it joins its queue.
+pub fn offer(
+    state: State,
+    id: u32,
+    priority: u32,
+    ontime: u32,
+    lifetime: u32,
+    stamp: u32,
+) -> (State, Answer) {
+    let moved = match clock_moved(&state, stamp) {
+        Ok(moved) => moved,
+        Err(number) => return (state, Answer::Refused(number)),
+    };
+    let packet = Packet {
+        id,
+        priority,
+        ontime,
+        lifetime,
+        arrival: moved.time,
+    };
+    let mut next = expired_removed(moved);
+    if let Some(number) = offer_refusal(&next, &packet) {
+        return (state, Answer::Refused(number));
+    }
+    let queue = &mut next.queues[priority as usize];
+    *queue = joined(queue, packet);
+    (next, Answer::Taken)
+}
+
+/// A poll: 9, 2, 3, else IDLE, CLOSED or SENT.
+pub fn poll(state: State, stamp: u32) -> (State, Answer) {
+    let moved = match clock_moved(&state, stamp) {
+        Ok(moved) => moved,
+        Err(number) => return (state, Answer::Refused(number)),
+    };
+    let next = expired_removed(moved);
+    let Some(packet) = first_waiting(&next) else {
+        return (next, Answer::Idle);
+    };
+    match time_left(&next) {
+        Some(left) => (next, Answer::Closed(left)),
+        None => (admitted(next, packet), Answer::Sent(packet)),
+    }
+}
+
+/// Any call on the state.
+pub fn call(state: State, call: &Call) -> (State, Answer) {
+    match *call {
+        Call::SampleWords { ref words, stamp } => sample_words(state, words, stamp),
+        Call::SampleCount { busy, stamp } => sample_count(state, busy, stamp),
+        Call::Offer {
+            id,
+            priority,
+            ontime,
+            lifetime,
+            stamp,
+        } => offer(state, id, priority, ontime, lifetime, stamp),
+        Call::Poll { stamp } => poll(state, stamp),
+    }
+}
+
+/// "Refusal numbers": checks 9, 2 and 3; then the state with its clock moved.
+fn clock_moved(state: &State, stamp: u32) -> Result<State, u32> {
+    if !sound(state) {
+        return Err(NO_STATE);
+    }
+    let step = rules::clock_step(state.stamp, stamp);
+    if rules::clock_goes_back(step) {
+        return Err(CLOCK_BACK);
+    }
+    let time = state.time + u64::from(step);
+    if time > rules::TIME_END {
+        return Err(CLOCK_END);
+    }
+    Ok(State {
+        stamp,
+        time,
+        ..*state
+    })
+}
+
+/// A sample: 9, 2, 3, 4 (no load), else the state learns the load.
+fn sample(state: State, load: Option<u32>, stamp: u32) -> (State, Answer) {
+    let moved = match clock_moved(&state, stamp) {
+        Ok(moved) => moved,
+        Err(number) => return (state, Answer::Refused(number)),
+    };
+    match load {
+        Some(load) => (load_learnt(moved, load), Answer::Taken),
+        None => (state, Answer::Refused(BAD_SAMPLE)),
+    }
+}
+
+/// "Samples": profiles 1 and 2 step the level; profile 3 keeps or pairs.
+fn load_learnt(state: State, load: u32) -> State {
+    if let Some(wanted) = rules::wanted_level(state.profile, load) {
+        State {
+            level: rules::level_step(state.level, wanted),
+            ..state
+        }
+    } else if state.haskept {
+        let smoothed = rules::smoothed_next(state.smoothed, state.kept, load);
+        State {
+            smoothed,
+            duty: rules::duty_next(state.duty, smoothed),
+            kept: 0,
+            haskept: false,
+            ..state
+        }
+    } else {
+        State {
+            kept: load,
+            haskept: true,
+            ..state
+        }
+    }
+}
+
+/// "Refusal numbers": checks 5, 6, 7 and 8 of an offer, given the state at
+/// the new time with the expired packets gone.
+fn offer_refusal(state: &State, packet: &Packet) -> Option<u32> {
+    if packet.priority > rules::PRIORITY_MOST {
+        return Some(BAD_PRIORITY);
+    }
+    if !rules::on_time_allowed(state.profile, packet.ontime) {
+        return Some(BAD_ON_TIME);
+    }
+    if !rules::lifetime_allowed(packet.lifetime) {
+        return Some(BAD_LIFETIME);
+    }
+    let queue = &state.queues[packet.priority as usize];
+    if queue.waiting().len() == SLOTS {
+        return Some(QUEUE_FULL);
+    }
+    None
+}
+
+/// "Waiting and leaving": every expired packet is removed, in all queues.
+fn expired_removed(state: State) -> State {
+    let mut queues = [Queue::default(); QUEUES];
+    for (kept, queue) in queues.iter_mut().zip(&state.queues) {
+        *kept = unexpired(queue, state.time);
+    }
+    State { queues, ..state }
+}
+
+/// The queue without its expired packets, the others in their order.
+fn unexpired(queue: &Queue, time: u64) -> Queue {
+    let mut kept = Queue::default();
+    for packet in queue.waiting() {
+        if !rules::expired(time, packet.arrival, packet.lifetime) {
+            kept = joined(&kept, *packet);
+        }
+    }
+    kept
+}
+
+/// The queue with a packet more at its back; there must be room.
+fn joined(queue: &Queue, packet: Packet) -> Queue {
+    let mut longer = *queue;
+    longer.slots[queue.waiting().len()] = packet;
+    longer.len += 1;
+    longer
+}
+
+/// The oldest packet of the lowest-numbered non-empty queue.
+fn first_waiting(state: &State) -> Option<Packet> {
+    for queue in &state.queues {
+        if let Some(oldest) = queue.waiting().first() {
+            return Some(*oldest);
+        }
+    }
+    None
+}
+
+/// The µs left of the wait, if something was admitted and less than the wait
+/// has passed since. The wait is taken afresh.
+fn time_left(state: &State) -> Option<u64> {
+    if !state.any {
+        return None;
+    }
+    let wait = rules::wait(state.profile, state.level, state.duty, state.ontime)?;
+    let passed = state.time - state.at;
+    if passed < u64::from(wait) {
+        Some(u64::from(wait) - passed)
+    } else {
+        None
+    }
+}
+
+/// The state after the packet left the front of its queue and was recorded as
+/// the last admission.
+fn admitted(state: State, packet: Packet) -> State {
+    let mut next = state;
+    let queue = &mut next.queues[packet.priority as usize];
+    *queue = Queue::of(&queue.waiting()[1..]);
+    next.any = true;
+    next.at = state.time;
+    next.ontime = packet.ontime;
+    next
+}

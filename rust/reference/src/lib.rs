@@ -1,0 +1,28 @@
+//! The second, independent program of the gate.
+//!
+//! It is document 01 written out plainly, to be read beside that paper and
+//! run beside the product. It shares no code and no table with the product.
+//!
+//! - [`rules`]: the rules on plain numbers, and each profile's constants
+//! - [`ccalls`]: the four calls for the radio maker's C stack
+//! - [`state`]: the state and what makes one sound
+//! - [`calls`]: a call on the state and the answer to it
+//! - [`gate`]: make, sample, offer and poll
+//! - [`book`]: the run's book, and the check of demand 3 over a run
+//! - [`log`]: the call log and its program
+//! - [`rng`]: a small number generator for tests
+//!
+//! Times are whole microseconds (µs), duty is in parts per 1,000,000,000 and
+//! load in parts per 1,000,000.
+
+#![forbid(unsafe_code)]
+#![deny(missing_docs)]
+
+pub mod book;
+pub mod calls;
+pub mod ccalls;
+pub mod gate;
+pub mod log;
+pub mod rng;
+pub mod rules;
+pub mod state;

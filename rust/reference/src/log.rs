@@ -1,0 +1,122 @@
+//! The call log and its program ("The call log and its program").
+
+use std::io::{self, ErrorKind, Read, Write};
+
+use crate::calls::BAD_KIND;
+use crate::gate::{self, Answer};
+use crate::state::State;
+
+/// The bytes of a record.
+pub const RECORD_BYTES: usize = 16;
+
+/// The fields of a record, in their order.
+#[derive(Clone, Copy, Debug, Default, PartialEq, Eq)]
+pub struct Record {
+    /// 0 make, 1 sample, 2 offer, 3 poll.
+    pub kind: u8,
+    /// The priority; of a make the profile.
+    pub priority: u8,
+    /// The on-time.
+    pub ontime: u16,
+    /// The lifetime.
+    pub lifetime: u32,
+    /// The identifier; of a sample the busy count.
+    pub id: u32,
+    /// The stamp.
+    pub stamp: u32,
+}
+
+impl Record {
+    /// The fields of 16 bytes, little-endian.
+    pub fn from_bytes(bytes: &[u8; RECORD_BYTES]) -> Record {
+        let word = |at: usize| {
+            u32::from_le_bytes([bytes[at], bytes[at + 1], bytes[at + 2], bytes[at + 3]])
+        };
+        Record {
+            kind: bytes[0],
+            priority: bytes[1],
+            ontime: u16::from_le_bytes([bytes[2], bytes[3]]),
+            lifetime: word(4),
+            id: word(8),
+            stamp: word(12),
+        }
+    }
+
+    /// The 16 bytes of the fields, for those who make logs to test with.
+    pub fn to_bytes(&self) -> [u8; RECORD_BYTES] {
+        let mut bytes = [0; RECORD_BYTES];
+        bytes[0] = self.kind;
+        bytes[1] = self.priority;
+        bytes[2..4].copy_from_slice(&self.ontime.to_le_bytes());
+        bytes[4..8].copy_from_slice(&self.lifetime.to_le_bytes());
+        bytes[8..12].copy_from_slice(&self.id.to_le_bytes());
+        bytes[12..16].copy_from_slice(&self.stamp.to_le_bytes());
+        bytes
+    }
+}
+
+/// One step of the program: a record on a state.
+pub fn step(state: State, record: &Record) -> (State, Answer) {
+    let priority = u32::from(record.priority);
+    let ontime = u32::from(record.ontime);
+    match record.kind {
+        0 => gate::make(priority, record.stamp),
+        1 => gate::sample_count(state, record.id, record.stamp),
+        2 => gate::offer(
+            state,
+            record.id,
+            priority,
+            ontime,
+            record.lifetime,
+            record.stamp,
+        ),
+        3 => gate::poll(state, record.stamp),
+        _ => (state, Answer::Refused(BAD_KIND)),
+    }
+}
+
+/// The line of an answer, without its newline byte.
+pub fn line(answer: &Answer) -> String {
+    match answer {
+        Answer::Ready => "READY".to_string(),
+        Answer::Taken => "TAKEN".to_string(),
+        Answer::Sent(packet) => format!("SENT {}", packet.id),
+        Answer::Idle => "IDLE".to_string(),
+        Answer::Closed(left) => format!("CLOSED {left}"),
+        Answer::Refused(number) => format!("REFUSED {number}"),
+    }
+}
+
+/// The program: a log in, one line a record out, then END or TORN. It holds
+/// one record and one state at a time, however the input hands its bytes over.
+pub fn replay(mut input: impl Read, mut output: impl Write) -> io::Result<()> {
+    // Before a successful make there is the not live state.
+    let mut state = State::default();
+    let mut bytes = [0; RECORD_BYTES];
+    loop {
+        let got = fill(&mut input, &mut bytes)?;
+        if got < RECORD_BYTES {
+            let last: &[u8] = if got == 0 { b"END\n" } else { b"TORN\n" };
+            output.write_all(last)?;
+            return output.flush();
+        }
+        let (next, answer) = step(state, &Record::from_bytes(&bytes));
+        state = next;
+        output.write_all(line(&answer).as_bytes())?;
+        output.write_all(b"\n")?;
+    }
+}
+
+/// Reads until the buffer is full or the input ends; how many bytes came.
+fn fill(input: &mut impl Read, bytes: &mut [u8]) -> io::Result<usize> {
+    let mut got = 0;
+    while got < bytes.len() {
+        match input.read(&mut bytes[got..]) {
+            Ok(0) => break,
+            Ok(more) => got += more,
+            Err(error) if error.kind() == ErrorKind::Interrupted => {}
+            Err(error) => return Err(error),
+        }
+    }
+    Ok(got)
+}

@@ -1,0 +1,308 @@
+//! The rules on plain numbers. Nothing here knows the state.
+//!
+//! A rule answers `None` where the paper gives no answer. No rule can
+//! overflow, whatever numbers it is given.
+
+/// The constants of a reactive profile ("Samples", table of levels).
+#[derive(Clone, Copy, Debug, PartialEq, Eq)]
+pub struct Reactive {
+    /// Longest on-time allowed, in µs. The shortest is 1.
+    pub on_time_max: u32,
+    /// Level 0, Relaxed, is wanted below this load.
+    pub relaxed_below: u32,
+    /// Level 1, Active 1, is wanted from there up to this load.
+    pub active1_to: u32,
+    /// Level 2, Active 2, is wanted from there up to this load.
+    pub active2_to: u32,
+    /// Level 3, Active 3, is wanted from there up to this load.
+    /// Level 4, Restrictive, is wanted above it.
+    pub active3_to: u32,
+    /// The wait of levels 0 to 4, in µs.
+    pub waits: [u32; 5],
+}
+
+/// The constants of the adaptive profile ("Samples" and "Waiting and leaving").
+#[derive(Clone, Copy, Debug, PartialEq, Eq)]
+pub struct Adaptive {
+    /// Longest on-time allowed, in µs. The shortest is 1.
+    pub on_time_max: u32,
+    /// The load that the duty is steered to.
+    pub load_target: u32,
+    /// The offset is held at or above this.
+    pub offset_least: i64,
+    /// The offset is held at or below this.
+    pub offset_most: i64,
+    /// The wait is held at or above this, in µs.
+    pub wait_least: u32,
+    /// The wait is held at or below this, in µs.
+    pub wait_most: u32,
+}
+
+/// Profile 1: reactive, Table A.1.
+pub const PROFILE_1: Reactive = Reactive {
+    on_time_max: 1_000,
+    relaxed_below: 300_000,
+    active1_to: 399_999,
+    active2_to: 499_999,
+    active3_to: 600_000,
+    waits: [100_000, 200_000, 400_000, 500_000, 1_000_000],
+};
+
+/// Profile 2: reactive, Table A.2.
+pub const PROFILE_2: Reactive = Reactive {
+    on_time_max: 500,
+    relaxed_below: 300_000,
+    active1_to: 399_999,
+    active2_to: 499_999,
+    active3_to: 650_000,
+    waits: [50_000, 100_000, 200_000, 250_000, 1_000_000],
+};
+
+/// Profile 3: adaptive, clause 5.4 with Table 3's values.
+pub const PROFILE_3: Adaptive = Adaptive {
+    on_time_max: 4_000,
+    load_target: 680_000,
+    offset_least: -250_000,
+    offset_most: 500_000,
+    wait_least: 25_000,
+    wait_most: 1_000_000,
+};
+
+/// The least duty of any state ("State and calls"), and a fresh state's.
+pub const DUTY_LEAST: u32 = 600_000;
+/// The greatest duty of any state ("State and calls").
+pub const DUTY_MOST: u32 = 30_000_000;
+/// The greatest load: every probe busy.
+pub const LOAD_MOST: u32 = 1_000_000;
+/// The highest level, Restrictive.
+pub const LEVEL_MOST: u32 = 4;
+/// The number of probes in a sample ("Samples").
+pub const PROBES: u32 = 1_000;
+/// The number of words in a sample ("Samples").
+pub const SAMPLE_WORDS: usize = 16;
+/// The number of low bits that the last word of a sample uses: 0 to 39.
+pub const LAST_WORD_BITS: u32 = 40;
+/// The running time at which the clock ends: 10^15 µs, still good itself.
+pub const TIME_END: u64 = 1_000_000_000_000_000;
+/// The longest lifetime, in µs. The shortest is 1.
+pub const LIFETIME_MOST: u32 = 60_000_000;
+/// The highest priority number.
+pub const PRIORITY_MOST: u32 = 3;
+
+/// Whether the profile is one of the three.
+pub fn profile_known(profile: u32) -> bool {
+    (1..=3).contains(&profile)
+}
+
+/// The constants of a reactive profile, if it is one.
+pub fn reactive(profile: u32) -> Option<Reactive> {
+    match profile {
+        1 => Some(PROFILE_1),
+        2 => Some(PROFILE_2),
+        _ => None,
+    }
+}
+
+/// "The three profiles": the longest on-time allowed.
+pub fn on_time_max(profile: u32) -> Option<u32> {
+    match profile {
+        1 => Some(PROFILE_1.on_time_max),
+        2 => Some(PROFILE_2.on_time_max),
+        3 => Some(PROFILE_3.on_time_max),
+        _ => None,
+    }
+}
+
+/// "The three profiles": whether the profile allows the on-time.
+/// An unknown profile allows none.
+pub fn on_time_allowed(profile: u32, ontime: u32) -> bool {
+    match on_time_max(profile) {
+        Some(most) => (1..=most).contains(&ontime),
+        None => false,
+    }
+}
+
+/// Whether a lifetime is good ("Refusal numbers", 7).
+pub fn lifetime_allowed(lifetime: u32) -> bool {
+    (1..=LIFETIME_MOST).contains(&lifetime)
+}
+
+/// Whether a duty is within its two limits.
+pub fn duty_allowed(duty: u32) -> bool {
+    (DUTY_LEAST..=DUTY_MOST).contains(&duty)
+}
+
+/// "The clock": later stamp minus earlier one, modulo 4,294,967,296.
+pub fn clock_step(earlier: u32, later: u32) -> u32 {
+    let turn: u64 = 4_294_967_296;
+    let step = (u64::from(later) + turn - u64::from(earlier)) % turn;
+    step as u32 // below 2^32 by the line above
+}
+
+/// "The clock": a step of 2,147,483,648 or more is the clock going back.
+pub fn clock_goes_back(step: u32) -> bool {
+    step >= 2_147_483_648
+}
+
+/// "Samples": the level wanted by a load, in a reactive profile.
+pub fn wanted_level(profile: u32, load: u32) -> Option<u32> {
+    let table = reactive(profile)?;
+    let level = if load < table.relaxed_below {
+        0
+    } else if load <= table.active1_to {
+        1
+    } else if load <= table.active2_to {
+        2
+    } else if load <= table.active3_to {
+        3
+    } else {
+        4
+    };
+    Some(level)
+}
+
+/// "Samples": one sample moves the level by at most one towards the wanted.
+pub fn level_step(level: u32, wanted: u32) -> u32 {
+    if level < wanted {
+        level + 1
+    } else if level > wanted {
+        level - 1
+    } else {
+        level
+    }
+}
+
+/// "Samples": smoothed' = floor((2 × smoothed + kept + new) / 4).
+pub fn smoothed_next(smoothed: u32, kept: u32, new: u32) -> u32 {
+    let sum = 2 * u64::from(smoothed) + u64::from(kept) + u64::from(new);
+    (sum / 4) as u32 // a mean of u32 numbers is one
+}
+
+/// Whole division that rounds towards minus infinity; the divisor is above 0.
+fn floor_div(number: i64, divisor: i64) -> i64 {
+    let towards_zero = number / divisor;
+    if number % divisor < 0 {
+        towards_zero - 1
+    } else {
+        towards_zero
+    }
+}
+
+/// A number held within two limits.
+fn held(number: i64, least: i64, most: i64) -> i64 {
+    if number < least {
+        least
+    } else if number > most {
+        most
+    } else {
+        number
+    }
+}
+
+/// "Samples": gap = 680,000 − smoothed'; offset = floor(6 × gap / 5), towards
+/// minus infinity, before it is held.
+pub fn offset_unheld(smoothed: u32) -> i64 {
+    let gap = i64::from(PROFILE_3.load_target) - i64::from(smoothed);
+    floor_div(6 * gap, 5)
+}
+
+/// "Samples": the offset, held within −250,000 to 500,000.
+pub fn offset(smoothed: u32) -> i64 {
+    held(
+        offset_unheld(smoothed),
+        PROFILE_3.offset_least,
+        PROFILE_3.offset_most,
+    )
+}
+
+/// "Samples": duty' = floor(984 × duty / 1,000) + offset, then held.
+/// `smoothed` is the new smoothed load, smoothed'.
+pub fn duty_next(duty: u32, smoothed: u32) -> u32 {
+    let faded = 984 * i64::from(duty) / 1_000; // not negative, so this is floor
+    let next = faded + offset(smoothed);
+    held(next, i64::from(DUTY_LEAST), i64::from(DUTY_MOST)) as u32 // within u32
+}
+
+/// "Waiting and leaving": the wait of a reactive profile's level.
+pub fn wait_reactive(profile: u32, level: u32) -> Option<u32> {
+    let table = reactive(profile)?;
+    table.waits.get(level as usize).copied()
+}
+
+/// "Waiting and leaving": ceil(on-time × 1,000,000,000 / duty), held within
+/// 25,000 to 1,000,000. A duty of 0 has no answer.
+pub fn wait_adaptive(duty: u32, ontime: u32) -> Option<u32> {
+    if duty == 0 {
+        return None;
+    }
+    let over = u64::from(ontime) * 1_000_000_000;
+    let whole = over / u64::from(duty);
+    let rest = over % u64::from(duty);
+    let ceiling = if rest == 0 { whole } else { whole + 1 };
+    let least = u64::from(PROFILE_3.wait_least);
+    let most = u64::from(PROFILE_3.wait_most);
+    Some(ceiling.max(least).min(most) as u32) // at most 1,000,000
+}
+
+/// "Waiting and leaving": the wait, by profile.
+pub fn wait(profile: u32, level: u32, duty: u32, ontime: u32) -> Option<u32> {
+    match profile {
+        1 | 2 => wait_reactive(profile, level),
+        3 => wait_adaptive(duty, ontime),
+        _ => None,
+    }
+}
+
+/// "Waiting and leaving": expired when running time minus arrival is at least
+/// the lifetime. An arrival still to come has no age, so it is not expired.
+pub fn expired(time: u64, arrival: u64, lifetime: u32) -> bool {
+    arrival <= time && time - arrival >= u64::from(lifetime)
+}
+
+/// "Samples": probe k is bit k mod 64 of word k / 64; busy if that bit is 1.
+/// There is no probe past the last word.
+pub fn probe_busy(words: &[u64], k: usize) -> Option<bool> {
+    let word = words.get(k / 64)?;
+    Some((word >> (k % 64)) & 1 == 1)
+}
+
+/// "Samples": the number of one bits in the words, counted probe by probe.
+pub fn busy_count(words: &[u64]) -> u64 {
+    let mut busy = 0;
+    let mut k = 0;
+    while let Some(one) = probe_busy(words, k) {
+        if one {
+            busy += 1;
+        }
+        k += 1;
+    }
+    busy
+}
+
+/// "Refusal numbers", 4: 16 words, no bit above bit 39 set in the last.
+pub fn words_good(words: &[u64]) -> bool {
+    words.len() == SAMPLE_WORDS && words[SAMPLE_WORDS - 1] >> LAST_WORD_BITS == 0
+}
+
+/// "Refusal numbers", 4: a busy count of at most 1,000.
+pub fn count_good(busy: u32) -> bool {
+    busy <= PROBES
+}
+
+/// "Samples": load is 1,000 times the busy count. A bad count has no load.
+pub fn load_of_count(busy: u32) -> Option<u32> {
+    if count_good(busy) {
+        Some(1_000 * busy)
+    } else {
+        None
+    }
+}
+
+/// "Samples": the load of a sample by words. A bad sample has no load.
+pub fn load_of_words(words: &[u64]) -> Option<u32> {
+    if words_good(words) {
+        load_of_count(busy_count(words) as u32) // at most 1,000 bits
+    } else {
+        None
+    }
+}

@@ -1,0 +1,223 @@
+//! The state, and what makes one sound ("State and calls").
+//!
+//! The fields are raw, so that any state a host could build can be judged.
+
+use crate::rules;
+
+/// The number of slots in a queue.
+pub const SLOTS: usize = 5;
+/// The number of queues, one for each priority.
+pub const QUEUES: usize = 4;
+
+/// A packet descriptor. An unused slot holds the all-zero one.
+#[derive(Clone, Copy, Debug, Default, PartialEq, Eq)]
+pub struct Packet {
+    /// Identifier: any number, repeats allowed.
+    pub id: u32,
+    /// Priority, 0 highest.
+    pub priority: u32,
+    /// On-time in µs.
+    pub ontime: u32,
+    /// Lifetime in µs.
+    pub lifetime: u32,
+    /// Running time at which it was offered.
+    pub arrival: u64,
+}
+
+/// A queue: the first `len` slots wait, the oldest first.
+#[derive(Clone, Copy, Debug, Default, PartialEq, Eq)]
+pub struct Queue {
+    /// How many wait; in a sound state at most 5.
+    pub len: u64,
+    /// The slots.
+    pub slots: [Packet; SLOTS],
+}
+
+impl Queue {
+    /// The waiting packets. A length above 5 is judged on the length itself,
+    /// and nothing is read with it.
+    pub fn waiting(&self) -> &[Packet] {
+        match usize::try_from(self.len) {
+            Ok(len) if len <= SLOTS => &self.slots[..len],
+            _ => &[],
+        }
+    }
+
+    /// The slots past the length. With a length above 5 there are none.
+    pub fn unused(&self) -> &[Packet] {
+        match usize::try_from(self.len) {
+            Ok(len) if len <= SLOTS => &self.slots[len..],
+            _ => &[],
+        }
+    }
+
+    /// A queue of these packets, in this order, unused slots zero; packets
+    /// past the fifth have no slot and are left out.
+    pub fn of(packets: &[Packet]) -> Queue {
+        let mut queue = Queue::default();
+        for (slot, packet) in queue.slots.iter_mut().zip(packets) {
+            *slot = *packet;
+            queue.len += 1;
+        }
+        queue
+    }
+}
+
+/// The state of a gate, sound or not. The default one is all-zero, not live.
+#[derive(Clone, Copy, Debug, Default, PartialEq, Eq)]
+pub struct State {
+    /// Whether it is live.
+    pub live: bool,
+    /// The profile, 1 to 3.
+    pub profile: u32,
+    /// The last stamp.
+    pub stamp: u32,
+    /// The running time in µs.
+    pub time: u64,
+    /// The level, 0 to 4.
+    pub level: u32,
+    /// The duty.
+    pub duty: u32,
+    /// The smoothed load.
+    pub smoothed: u32,
+    /// The load of the sample kept for pairing.
+    pub kept: u32,
+    /// Whether a sample is kept.
+    pub haskept: bool,
+    /// Whether anything was admitted.
+    pub any: bool,
+    /// The running time of the last admission.
+    pub at: u64,
+    /// The on-time of the last admission.
+    pub ontime: u32,
+    /// The four queues, by priority.
+    pub queues: [Queue; QUEUES],
+}
+
+impl State {
+    /// A fresh state.
+    pub fn fresh(profile: u32, stamp: u32) -> State {
+        State {
+            live: true,
+            profile,
+            stamp,
+            duty: rules::DUTY_LEAST,
+            ..State::default()
+        }
+    }
+
+    /// How many packets wait in all queues.
+    pub fn waiting(&self) -> usize {
+        self.queues.iter().map(|queue| queue.waiting().len()).sum()
+    }
+}
+
+/// One rule of soundness: its name, and whether it holds of a state.
+type Rule = (&'static str, fn(&State) -> bool);
+
+/// The rules in the order of the paper's list.
+const RULES: [Rule; 20] = [
+    ("live", |s| s.live),
+    ("profile 1 to 3", |s| rules::profile_known(s.profile)),
+    ("level at most 4", |s| s.level <= rules::LEVEL_MOST),
+    ("duty within limits", |s| rules::duty_allowed(s.duty)),
+    ("smoothed load at most 1,000,000", |s| {
+        s.smoothed <= rules::LOAD_MOST
+    }),
+    ("kept load at most 1,000,000", |s| {
+        s.kept <= rules::LOAD_MOST
+    }),
+    ("sample kept only in profile 3", |s| {
+        !s.haskept || s.profile == 3
+    }),
+    ("running time at most 10^15", |s| s.time <= rules::TIME_END),
+    ("admission not after running time", |s| {
+        !s.any || s.at <= s.time
+    }),
+    ("admission on-time allowed", |s| {
+        !s.any || rules::on_time_allowed(s.profile, s.ontime)
+    }),
+    ("queue length at most 5", lengths_good),
+    ("waiting on-time allowed", waiting_on_times_good),
+    ("waiting lifetime within limits", waiting_lifetimes_good),
+    ("waiting in its own priority's queue", waiting_places_good),
+    ("arrival not after running time", arrivals_past),
+    ("arrivals not decreasing", arrivals_in_order),
+    ("kept load zero when none kept", |s| {
+        s.haskept || s.kept == 0
+    }),
+    ("admission time zero before the first", |s| {
+        s.any || s.at == 0
+    }),
+    ("admission on-time zero before the first", |s| {
+        s.any || s.ontime == 0
+    }),
+    ("slots past the length zero", unused_slots_zero),
+];
+
+fn lengths_good(state: &State) -> bool {
+    state.queues.iter().all(|queue| queue.len <= SLOTS as u64)
+}
+
+fn waiting_on_times_good(state: &State) -> bool {
+    let good = |packet: &Packet| rules::on_time_allowed(state.profile, packet.ontime);
+    state
+        .queues
+        .iter()
+        .all(|queue| queue.waiting().iter().all(good))
+}
+
+fn waiting_lifetimes_good(state: &State) -> bool {
+    let good = |packet: &Packet| rules::lifetime_allowed(packet.lifetime);
+    state
+        .queues
+        .iter()
+        .all(|queue| queue.waiting().iter().all(good))
+}
+
+fn waiting_places_good(state: &State) -> bool {
+    (0u32..).zip(&state.queues).all(|(priority, queue)| {
+        let own = |packet: &Packet| packet.priority == priority;
+        queue.waiting().iter().all(own)
+    })
+}
+
+fn arrivals_past(state: &State) -> bool {
+    let past = |packet: &Packet| packet.arrival <= state.time;
+    state
+        .queues
+        .iter()
+        .all(|queue| queue.waiting().iter().all(past))
+}
+
+fn arrivals_in_order(state: &State) -> bool {
+    let in_order = |pair: &[Packet]| pair[0].arrival <= pair[1].arrival;
+    state
+        .queues
+        .iter()
+        .all(|queue| queue.waiting().windows(2).all(in_order))
+}
+
+fn unused_slots_zero(state: &State) -> bool {
+    let zero = |packet: &Packet| *packet == Packet::default();
+    state
+        .queues
+        .iter()
+        .all(|queue| queue.unused().iter().all(zero))
+}
+
+/// The names of all rules, in the order of the paper's list.
+pub fn rule_names() -> Vec<&'static str> {
+    RULES.iter().map(|(name, _)| *name).collect()
+}
+
+/// The names of the rules that a state breaks.
+pub fn broken_rules(state: &State) -> Vec<&'static str> {
+    let broken = RULES.iter().filter(|(_, holds)| !holds(state));
+    broken.map(|(name, _)| *name).collect()
+}
+
+/// Whether a state is sound: it breaks no rule.
+pub fn sound(state: &State) -> bool {
+    RULES.iter().all(|(_, holds)| holds(state))
+}

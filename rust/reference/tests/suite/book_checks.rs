@@ -1,0 +1,325 @@
+//! The book checker rejects wrong gates, and its ceiling is every window's.
+
+use crate::help::{Answer, Call};
+use crate::runs::Caller;
+use reference::book::Book;
+use reference::gate;
+use reference::rng::Rng;
+use reference::state::{Packet, State};
+
+fn offer(id: u32, priority: u32, ontime: u32, lifetime: u32, stamp: u32) -> Call {
+    Call::Offer {
+        id,
+        priority,
+        ontime,
+        lifetime,
+        stamp,
+    }
+}
+
+fn packet(id: u32, priority: u32, ontime: u32, lifetime: u32, arrival: u64) -> Packet {
+    Packet {
+        id,
+        priority,
+        ontime,
+        lifetime,
+        arrival,
+    }
+}
+
+/// A book, its make at stamp 0, fed right calls and answers.
+fn book(fed: &[(Call, Answer)]) -> Book {
+    let mut book = Book::new(0);
+    for (call, answer) in fed {
+        book.feed(call, answer).unwrap();
+    }
+    book
+}
+
+/// A last answer must be rejected, for that reason.
+fn rejects(book: &Book, call: Call, answer: Answer, reason: &str) {
+    let said = book.clone().feed(&call, &answer).unwrap_err();
+    assert!(said.contains(reason), "{said}");
+}
+
+fn accepts(book: &Book, call: Call, answer: Answer) {
+    book.clone().feed(&call, &answer).unwrap();
+}
+
+#[test]
+fn sent_with_another_packet() {
+    let book = book(&[
+        (offer(1, 2, 400, 60_000, 5), Answer::Taken),
+        (offer(2, 2, 400, 60_000, 5), Answer::Taken),
+        (offer(3, 1, 400, 60_000, 6), Answer::Taken),
+    ]);
+    let poll = Call::Poll { stamp: 9 };
+    let right = packet(3, 1, 400, 60_000, 6);
+    accepts(&book, poll.clone(), Answer::Sent(right));
+    let wrong = [
+        packet(1, 2, 400, 60_000, 5), // a lower priority
+        packet(4, 1, 400, 60_000, 6),
+        packet(3, 2, 400, 60_000, 6),
+        packet(3, 1, 401, 60_000, 6),
+        packet(3, 1, 400, 60_001, 6),
+        packet(3, 1, 400, 60_000, 5),
+    ];
+    for packet in wrong {
+        rejects(&book, poll.clone(), Answer::Sent(packet), "struck");
+    }
+}
+
+#[test]
+fn sent_out_of_turn_in_a_column() {
+    let book = book(&[
+        (offer(1, 0, 9, 60_000, 0), Answer::Taken),
+        (offer(2, 0, 9, 60_000, 0), Answer::Taken),
+    ]);
+    let second = Answer::Sent(packet(2, 0, 9, 60_000, 0));
+    rejects(&book, Call::Poll { stamp: 0 }, second, "struck");
+}
+
+#[test]
+fn sent_with_nothing_there_or_expired() {
+    let sent = Answer::Sent(packet(1, 0, 9, 100, 0));
+    rejects(
+        &book(&[]),
+        Call::Poll { stamp: 0 },
+        sent,
+        "all columns empty",
+    );
+    let one = book(&[(offer(1, 0, 9, 100, 0), Answer::Taken)]);
+    accepts(&one, Call::Poll { stamp: 99 }, sent);
+    rejects(&one, Call::Poll { stamp: 100 }, sent, "all columns empty");
+    rejects(
+        &one,
+        Call::Poll { stamp: 100 },
+        Answer::Closed(1),
+        "all columns empty",
+    );
+    accepts(&one, Call::Poll { stamp: 100 }, Answer::Idle);
+}
+
+#[test]
+fn sent_too_early_breaks_the_ceiling() {
+    let book = book(&[
+        (offer(1, 0, 4_000, 60_000_000, 0), Answer::Taken),
+        (offer(2, 0, 4_000, 60_000_000, 0), Answer::Taken),
+        (
+            Call::Poll { stamp: 0 },
+            Answer::Sent(packet(1, 0, 4_000, 60_000_000, 0)),
+        ),
+    ]);
+    // 800,000 against 3 × W + 400,000: good from W = 133,334.
+    let second = Answer::Sent(packet(2, 0, 4_000, 60_000_000, 0));
+    for stamp in [0, 1, 25_000, 133_333] {
+        accepts(&book, Call::Poll { stamp }, Answer::Closed(1));
+        rejects(&book, Call::Poll { stamp }, second, "ceiling");
+    }
+    accepts(&book, Call::Poll { stamp: 133_334 }, second);
+}
+
+#[test]
+fn many_admissions_a_little_too_early_break_the_ceiling() {
+    let mut book = Book::new(0);
+    let mut stamp = 0;
+    for turn in 0.. {
+        book.feed(&offer(1, 3, 1_000, 60_000, stamp), &Answer::Taken)
+            .unwrap();
+        let sent = Answer::Sent(packet(1, 3, 1_000, 60_000, u64::from(stamp)));
+        if book.feed(&Call::Poll { stamp }, &sent).is_err() {
+            // Each passes 3 % by 10 parts; the first alone has 300,000 left.
+            assert_eq!(turn, 30_001);
+            break;
+        }
+        stamp += 33_330;
+    }
+}
+
+#[test]
+fn closed_where_the_floor_says_send() {
+    let none_yet = book(&[(offer(1, 3, 9, 60_000_000, 0), Answer::Taken)]);
+    rejects(
+        &none_yet,
+        Call::Poll { stamp: 0 },
+        Answer::Closed(5),
+        "floor",
+    );
+    let book = book(&[
+        (offer(1, 3, 9, 60_000_000, 0), Answer::Taken),
+        (offer(2, 3, 9, 60_000_000, 0), Answer::Taken),
+        (
+            Call::Poll { stamp: 7 },
+            Answer::Sent(packet(1, 3, 9, 60_000_000, 0)),
+        ),
+    ]);
+    accepts(&book, Call::Poll { stamp: 1_000_006 }, Answer::Closed(1));
+    rejects(
+        &book,
+        Call::Poll { stamp: 1_000_007 },
+        Answer::Closed(1),
+        "floor",
+    );
+}
+
+#[test]
+fn idle_with_a_packet_there() {
+    let book = book(&[(offer(1, 3, 9, 60_000, 0), Answer::Taken)]);
+    rejects(&book, Call::Poll { stamp: 0 }, Answer::Idle, "IDLE");
+}
+
+#[test]
+fn answers_that_do_not_fit_the_call() {
+    let empty = book(&[]);
+    let samples = [
+        Call::SampleCount { busy: 1, stamp: 0 },
+        Call::SampleWords {
+            words: vec![0; 16],
+            stamp: 0,
+        },
+    ];
+    for call in samples {
+        rejects(&empty, call.clone(), Answer::Idle, "answered");
+        accepts(&empty, call, Answer::Taken);
+    }
+    rejects(&empty, offer(1, 0, 1, 1, 0), Answer::Ready, "answered");
+    rejects(&empty, offer(1, 4, 1, 1, 0), Answer::Taken, "no column");
+    rejects(&empty, Call::Poll { stamp: 0 }, Answer::Taken, "answered");
+    rejects(&empty, Call::Poll { stamp: 0 }, Answer::Ready, "answered");
+}
+
+#[test]
+fn a_refused_call_changes_nothing() {
+    let before = book(&[(offer(1, 0, 9, 60, 0), Answer::Taken)]);
+    let mut after = before.clone();
+    for call in [offer(2, 0, 9, 60, 70), Call::Poll { stamp: 70 }] {
+        after.feed(&call, &Answer::Refused(8)).unwrap();
+    }
+    assert_eq!((after.time(), after.stamp()), (0, 0));
+    assert_eq!(after.columns(), before.columns());
+}
+
+#[test]
+fn a_sample_moves_the_books_clock_alone() {
+    let mut book = book(&[(offer(1, 0, 9, 60, 0), Answer::Taken)]);
+    let call = Call::SampleCount { busy: 0, stamp: 70 };
+    book.feed(&call, &Answer::Taken).unwrap();
+    assert_eq!((book.time(), book.stamp(), book.expiries()), (70, 70, 0));
+    assert_eq!(book.columns()[0].len(), 1);
+}
+
+/// The smallest slack over all windows between two admissions, one by one.
+fn slack_by_every_window(admissions: &[(u64, u32)]) -> Option<i128> {
+    let mut smallest: Option<i128> = None;
+    for (first, &(start, _)) in admissions.iter().enumerate() {
+        let mut air = 0;
+        for &(end, ontime) in &admissions[first..] {
+            air += i128::from(ontime);
+            let slack = 3 * i128::from(end - start) + 400_000 - 100 * air;
+            smallest = Some(smallest.map_or(slack, |old| old.min(slack)));
+        }
+    }
+    smallest
+}
+
+#[test]
+fn the_ceiling_is_that_of_every_window() {
+    let mut rng = Rng::new(31);
+    for _ in 0..200 {
+        let mut book = Book::new(0);
+        let mut admissions: Vec<(u64, u32)> = Vec::new();
+        let mut stamp = 0u32;
+        for _ in 0..60 {
+            stamp += rng.pick(&[0, 10_000, 30_000, 33_334, 100_000, 400_000]);
+            let ontime = 1 + rng.below(2_000) as u32;
+            book.feed(&offer(1, 0, ontime, 1, stamp), &Answer::Taken)
+                .unwrap();
+            let sent = packet(1, 0, ontime, 1, u64::from(stamp));
+            let fed = book.feed(&Call::Poll { stamp }, &Answer::Sent(sent));
+            admissions.push((u64::from(stamp), ontime));
+            let slack = slack_by_every_window(&admissions);
+            assert_eq!(book.closest().smallest_slack, slack);
+            assert_eq!(fed.is_err(), slack < Some(0));
+            if fed.is_err() {
+                break;
+            }
+        }
+    }
+}
+
+/// The answers that a poll may not give in place of the right one.
+fn wrong_answers(rng: &mut Rng, right: &Answer, state: &State) -> Vec<Answer> {
+    match *right {
+        Answer::Sent(packet) => {
+            let other = Packet {
+                id: packet.id ^ 1,
+                ..packet
+            };
+            let later = Packet {
+                arrival: packet.arrival + 1 + rng.below(9),
+                ..packet
+            };
+            vec![Answer::Idle, Answer::Sent(other), Answer::Sent(later)]
+        }
+        Answer::Idle => {
+            let gone = Packet {
+                ontime: 1,
+                ..state.queues[0].slots[0]
+            };
+            vec![Answer::Closed(1), Answer::Sent(gone)]
+        }
+        Answer::Closed(_) => vec![Answer::Idle, Answer::Sent(Packet::default())],
+        _ => vec![],
+    }
+}
+
+#[test]
+fn changed_answers_in_random_runs_are_rejected() {
+    for profile in [1, 2, 3] {
+        let (mut state, _) = gate::make(profile, 0);
+        let mut book = Book::new(0);
+        let mut caller = Caller::new(profile, 40);
+        let mut rng = Rng::new(41);
+        let mut changed = 0;
+        for _ in 0..20_000 {
+            let call = caller.call(state.stamp);
+            let (next, answer) = gate::call(state, &call);
+            for wrong in wrong_answers(&mut rng, &answer, &state) {
+                assert!(book.clone().feed(&call, &wrong).is_err());
+                changed += 1;
+            }
+            book.feed(&call, &answer).unwrap();
+            caller.heard(&answer);
+            state = next;
+        }
+        assert!(changed > 5_000);
+    }
+}
+
+#[test]
+fn gates_without_a_wait_or_that_never_open_are_rejected() {
+    for profile in [1, 3] {
+        for silent in [false, true] {
+            let (mut state, _) = gate::make(profile, 0);
+            let mut book = Book::new(0);
+            let mut caller = Caller::new(profile, 50);
+            let rejected = (0..20_000).any(|_| {
+                let call = caller.call(state.stamp);
+                // A gate that forgets its admissions has no wait at all.
+                state = State {
+                    any: false,
+                    at: 0,
+                    ontime: 0,
+                    ..state
+                };
+                let (next, mut answer) = gate::call(state, &call);
+                if silent && matches!(answer, Answer::Sent(_)) {
+                    answer = Answer::Closed(1);
+                }
+                state = next;
+                book.feed(&call, &answer).is_err()
+            });
+            assert!(rejected);
+        }
+    }
+}

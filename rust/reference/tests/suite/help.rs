@@ -1,0 +1,87 @@
+//! What several modules use.
+
+use reference::gate;
+use reference::rules;
+use reference::state::{Packet, Queue, State};
+
+pub use reference::gate::{Answer, Call};
+
+/// The three profiles.
+pub const PROFILES: [u32; 3] = [1, 2, 3];
+
+/// A fresh state at stamp 0.
+pub fn fresh(profile: u32) -> State {
+    let (state, answer) = gate::make(profile, 0);
+    assert_eq!(answer, Answer::Ready);
+    state
+}
+
+/// A packet of the longest on-time that the profile allows.
+pub fn packet(profile: u32, id: u32, priority: u32, lifetime: u32, arrival: u64) -> Packet {
+    Packet {
+        id,
+        priority,
+        ontime: rules::on_time_max(profile).unwrap(),
+        lifetime,
+        arrival,
+    }
+}
+
+/// A sound state late in a run, with so many packets in each queue.
+pub fn late(profile: u32, lengths: [usize; 4]) -> State {
+    let time = 5_000_000_000;
+    let mut state = fresh(profile);
+    state.stamp = 77;
+    state.time = time;
+    state.any = true;
+    state.at = time - 10_000;
+    state.ontime = 1;
+    for (priority, length) in lengths.into_iter().enumerate() {
+        let waiting: Vec<Packet> = (0..length)
+            .map(|i| {
+                let arrival = time - 900 + 100 * i as u64;
+                packet(profile, 10 + i as u32, priority as u32, 1_000_000, arrival)
+            })
+            .collect();
+        state.queues[priority] = Queue::of(&waiting);
+    }
+    state
+}
+
+/// Sixteen words with the first `busy` probes busy.
+pub fn words(busy: u32) -> Vec<u64> {
+    let mut words = vec![0u64; 16];
+    for k in 0..busy as usize {
+        words[k / 64] |= 1 << (k % 64);
+    }
+    words
+}
+
+/// A state after one sample by count that must be taken.
+pub fn sampled(state: State, busy: u32) -> State {
+    let (next, answer) = gate::sample_count(state, busy, state.stamp);
+    assert_eq!(answer, Answer::Taken);
+    next
+}
+
+/// A state after an offer, on-time 1, that must be taken.
+pub fn offered(state: State, id: u32, priority: u32, lifetime: u32, stamp: u32) -> State {
+    let (next, answer) = gate::offer(state, id, priority, 1, lifetime, stamp);
+    assert_eq!(answer, Answer::Taken);
+    next
+}
+
+/// A state after a poll that must send the packet of that identifier.
+pub fn sent(state: State, id: u32, stamp: u32) -> State {
+    let (next, answer) = gate::poll(state, stamp);
+    match answer {
+        Answer::Sent(packet) => assert_eq!(packet.id, id),
+        other => panic!("{other:?} in place of SENT {id}"),
+    }
+    next
+}
+
+/// A call must be refused with the number, the state handed back unchanged.
+pub fn assert_refused(state: State, result: (State, Answer), number: u32) {
+    assert_eq!(result, (state, Answer::Refused(number)));
+}

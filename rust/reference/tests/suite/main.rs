@@ -1,0 +1,15 @@
+//! The tests of the reference, one subject a module.
+
+mod bench;
+mod book_checks;
+mod ccalls;
+mod clock;
+mod help;
+mod log_program;
+mod queues;
+mod refusals;
+mod rules_whole;
+mod runs;
+mod samples;
+mod slips;
+mod soundness;

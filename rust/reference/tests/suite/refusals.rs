@@ -1,0 +1,162 @@
+//! "Refusal numbers": each number at its boundary, and the order of checks.
+
+use crate::help::{assert_refused, fresh, late, Answer, PROFILES};
+use reference::gate;
+use reference::state::State;
+
+const BACK: u32 = 2_147_483_648;
+
+#[test]
+fn make_takes_three_profiles() {
+    for profile in PROFILES {
+        for stamp in [0, 1, u32::MAX] {
+            let (state, answer) = gate::make(profile, stamp);
+            assert_eq!(answer, Answer::Ready);
+            let expected = State {
+                live: true,
+                profile,
+                stamp,
+                duty: 600_000,
+                ..State::default()
+            };
+            assert_eq!(state, expected);
+        }
+    }
+    for profile in [0, 4, 5, 255, 256, u32::MAX] {
+        let none = State::default();
+        assert_refused(none, gate::make(profile, 7), 1);
+        assert!(!none.live);
+    }
+}
+
+#[test]
+fn number_4_by_count() {
+    for profile in PROFILES {
+        let state = fresh(profile);
+        assert_eq!(gate::sample_count(state, 1_000, 0).1, Answer::Taken);
+        for busy in [1_001, 65_536, u32::MAX] {
+            assert_refused(state, gate::sample_count(state, busy, 5), 4);
+        }
+    }
+}
+
+#[test]
+fn number_4_by_words() {
+    for profile in PROFILES {
+        let state = fresh(profile);
+        let mut last = [0u64; 16];
+        last[15] = 1 << 39;
+        assert_eq!(gate::sample_words(state, &last, 0).1, Answer::Taken);
+        last[15] = 1 << 40;
+        assert_refused(state, gate::sample_words(state, &last, 5), 4);
+        assert_refused(state, gate::sample_words(state, &[0; 15], 5), 4);
+        assert_refused(state, gate::sample_words(state, &[0; 17], 5), 4);
+    }
+}
+
+#[test]
+fn number_5_priority() {
+    for profile in PROFILES {
+        let state = fresh(profile);
+        for priority in 0..=3 {
+            assert_eq!(gate::offer(state, 1, priority, 1, 1, 0).1, Answer::Taken);
+        }
+        for priority in [4, 5, 256, u32::MAX] {
+            assert_refused(state, gate::offer(state, 1, priority, 1, 1, 5), 5);
+        }
+    }
+}
+
+#[test]
+fn number_6_on_time() {
+    for (profile, most) in [(1, 1_000), (2, 500), (3, 4_000)] {
+        let state = fresh(profile);
+        for ontime in [1, most] {
+            assert_eq!(gate::offer(state, 1, 0, ontime, 1, 0).1, Answer::Taken);
+        }
+        for ontime in [0, most + 1, u32::MAX] {
+            assert_refused(state, gate::offer(state, 1, 0, ontime, 1, 5), 6);
+        }
+    }
+}
+
+#[test]
+fn number_7_lifetime() {
+    for profile in PROFILES {
+        let state = fresh(profile);
+        for lifetime in [1, 60_000_000] {
+            assert_eq!(gate::offer(state, 1, 0, 1, lifetime, 0).1, Answer::Taken);
+        }
+        for lifetime in [0, 60_000_001, u32::MAX] {
+            assert_refused(state, gate::offer(state, 1, 0, 1, lifetime, 5), 7);
+        }
+    }
+}
+
+#[test]
+fn number_8_queue_full() {
+    for profile in PROFILES {
+        for priority in 0..4 {
+            let mut lengths = [0; 4];
+            lengths[priority as usize] = 4;
+            let state = late(profile, lengths);
+            let (full, answer) = gate::offer(state, 1, priority, 1, 1_000, state.stamp);
+            assert_eq!(answer, Answer::Taken);
+            let again = gate::offer(full, 1, priority, 1, 1, full.stamp + 5);
+            assert_refused(full, again, 8);
+            for other in (0..4).filter(|&other| other != priority) {
+                let (_, answer) = gate::offer(full, 1, other, 1, 1, full.stamp);
+                assert_eq!(answer, Answer::Taken);
+            }
+        }
+    }
+}
+
+/// Every call, with arguments as bad as can be, on a state.
+fn worst_calls(state: State, stamp: u32) -> [(State, Answer); 4] {
+    [
+        gate::sample_words(state, &[u64::MAX; 3], stamp),
+        gate::sample_count(state, u32::MAX, stamp),
+        gate::offer(state, 1, u32::MAX, u32::MAX, u32::MAX, stamp),
+        gate::poll(state, stamp),
+    ]
+}
+
+#[test]
+fn order_9_then_2_then_3() {
+    for profile in PROFILES {
+        let mut state = late(profile, [5, 5, 5, 5]);
+        state.time = 1_000_000_000_000_000;
+        for result in worst_calls(state, state.stamp.wrapping_add(BACK)) {
+            assert_refused(state, result, 2);
+        }
+        for result in worst_calls(state, state.stamp.wrapping_add(1)) {
+            assert_refused(state, result, 3);
+        }
+        state.level = 5;
+        for step in [0, 1, BACK] {
+            for result in worst_calls(state, state.stamp.wrapping_add(step)) {
+                assert_refused(state, result, 9);
+            }
+        }
+    }
+}
+
+#[test]
+fn order_5_then_6_then_7_then_8() {
+    for profile in PROFILES {
+        let state = late(profile, [5, 5, 5, 5]);
+        let stamp = state.stamp;
+        assert_refused(state, gate::offer(state, 1, 4, 0, 0, stamp), 5);
+        assert_refused(state, gate::offer(state, 1, 3, 0, 0, stamp), 6);
+        assert_refused(state, gate::offer(state, 1, 3, 1, 0, stamp), 7);
+        assert_refused(state, gate::offer(state, 1, 3, 1, 1, stamp), 8);
+    }
+}
+
+#[test]
+fn the_not_live_state_is_refused_with_9() {
+    for result in worst_calls(State::default(), BACK) {
+        assert_refused(State::default(), result, 9);
+    }
+}

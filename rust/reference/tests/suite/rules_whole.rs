@@ -1,0 +1,121 @@
+//! The rules over whole ranges, and at the ends of the number types.
+
+use reference::rng::Rng;
+use reference::rules;
+
+/// The greatest load of each level 0 to 3, by the paper's table.
+const TO: [(u32, [u32; 4]); 2] = [
+    (1, [299_999, 399_999, 499_999, 600_000]),
+    (2, [299_999, 399_999, 499_999, 650_000]),
+];
+
+#[test]
+fn wanted_level_over_every_load() {
+    for (profile, to) in TO {
+        for load in 0..=1_000_001 {
+            let level = to.iter().filter(|&&most| load > most).count() as u32;
+            assert_eq!(rules::wanted_level(profile, load), Some(level));
+        }
+        assert_eq!(rules::wanted_level(profile, u32::MAX), Some(4));
+    }
+    for profile in [0, 3, 4, u32::MAX] {
+        assert_eq!(rules::wanted_level(profile, 0), None);
+    }
+}
+
+#[test]
+fn level_steps_are_at_most_one() {
+    for level in 0..=4i64 {
+        for wanted in 0..=4i64 {
+            let expected = level + (wanted - level).signum();
+            let next = rules::level_step(level as u32, wanted as u32);
+            assert_eq!(i64::from(next), expected);
+        }
+    }
+    assert_eq!(rules::level_step(u32::MAX, u32::MAX), u32::MAX);
+    assert_eq!(rules::level_step(0, u32::MAX), 1);
+    assert_eq!(rules::level_step(u32::MAX, 0), u32::MAX - 1);
+}
+
+#[test]
+fn reactive_waits_by_level() {
+    let waits = |profile| -> Vec<u32> {
+        let level_wait = |level| rules::wait_reactive(profile, level).unwrap();
+        (0..=4).map(level_wait).collect()
+    };
+    assert_eq!(waits(1), [100_000, 200_000, 400_000, 500_000, 1_000_000]);
+    assert_eq!(waits(2), [50_000, 100_000, 200_000, 250_000, 1_000_000]);
+    for level in [5, 6, u32::MAX] {
+        assert_eq!(rules::wait_reactive(1, level), None);
+        assert_eq!(rules::wait(2, level, 600_000, 1), None);
+    }
+    assert_eq!(rules::wait(0, 0, 600_000, 1), None);
+    assert_eq!(rules::wait(4, 0, 600_000, 1), None);
+}
+
+#[test]
+fn offset_is_the_greatest_whole_number_below() {
+    for smoothed in 0..=1_000_000u32 {
+        let gap = 680_000 - i64::from(smoothed);
+        let offset = rules::offset_unheld(smoothed);
+        assert!(5 * offset <= 6 * gap && 6 * gap < 5 * (offset + 1));
+        let held = rules::offset(smoothed);
+        assert_eq!(held, offset.clamp(-250_000, 500_000));
+    }
+}
+
+#[test]
+fn offset_limits() {
+    // 6 × gap / 5 reaches 500,000 at gap 416,667 and −250,000 at gap −208,333.
+    assert_eq!(rules::offset(263_333), 500_000);
+    assert_eq!(rules::offset(263_334), 499_999);
+    assert_eq!(rules::offset(888_333), -250_000);
+    assert_eq!(rules::offset(888_332), -249_999);
+    assert_eq!(rules::offset(u32::MAX), -250_000);
+}
+
+#[test]
+fn adaptive_wait_is_the_ceiling_held() {
+    let mut rng = Rng::new(11);
+    for _ in 0..200_000 {
+        let duty = 600_000 + rng.below(29_400_001) as u32;
+        let ontime = 1 + rng.below(4_000) as u32;
+        let wait = u64::from(rules::wait_adaptive(duty, ontime).unwrap());
+        let over = u64::from(ontime) * 1_000_000_000;
+        let duty = u64::from(duty);
+        let enough = wait * duty >= over;
+        let least_enough = (wait - 1) * duty < over;
+        assert!(wait == 25_000 || least_enough);
+        assert!(wait == 1_000_000 || enough);
+        assert!((25_000..=1_000_000).contains(&wait));
+    }
+}
+
+#[test]
+fn rules_at_the_ends_of_their_types() {
+    assert_eq!(rules::smoothed_next(u32::MAX, u32::MAX, u32::MAX), u32::MAX);
+    assert_eq!(rules::duty_next(u32::MAX, u32::MAX), 30_000_000);
+    assert_eq!(rules::duty_next(0, u32::MAX), 600_000);
+    assert_eq!(rules::wait_adaptive(1, u32::MAX), Some(1_000_000));
+    assert_eq!(rules::wait_adaptive(u32::MAX, 0), Some(25_000));
+    assert_eq!(rules::wait_adaptive(0, 1), None);
+    assert_eq!(rules::load_of_count(u32::MAX), None);
+    assert!(rules::expired(u64::MAX, 0, u32::MAX));
+    assert!(!rules::expired(0, u64::MAX, 0));
+    assert_eq!(rules::busy_count(&[u64::MAX; 40]), 2_560);
+    assert_eq!(rules::busy_count(&[]), 0);
+}
+
+#[test]
+fn on_times_allowed() {
+    for (profile, most) in [(1, 1_000), (2, 500), (3, 4_000)] {
+        for ontime in 0..=5_000 {
+            let allowed = (1..=most).contains(&ontime);
+            assert_eq!(rules::on_time_allowed(profile, ontime), allowed);
+        }
+        assert!(!rules::on_time_allowed(profile, u32::MAX));
+    }
+    for profile in [0, 4, u32::MAX] {
+        assert!(!rules::on_time_allowed(profile, 1));
+    }
+}

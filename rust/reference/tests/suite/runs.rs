@@ -1,0 +1,231 @@
+//! Random runs from a fresh state: the book checker holds on each of them.
+
+use std::collections::BTreeMap;
+
+use crate::help::{words, Answer, Call};
+use reference::book::Book;
+use reference::gate;
+use reference::rng::Rng;
+use reference::rules;
+use reference::state::{sound, Packet, State};
+
+/// Makes the calls of a run. It looks at answers, so as to poll near the
+/// moment that the gate opens.
+pub struct Caller {
+    rng: Rng,
+    profile: u32,
+    left: u64,
+    mood: u32,
+}
+
+impl Caller {
+    pub fn new(profile: u32, seed: u64) -> Caller {
+        Caller {
+            rng: Rng::new(seed),
+            profile,
+            left: 0,
+            mood: 0,
+        }
+    }
+
+    pub fn heard(&mut self, answer: &Answer) {
+        if let Answer::Closed(left) = answer {
+            self.left = *left;
+        }
+    }
+
+    pub fn call(&mut self, last_stamp: u32) -> Call {
+        let stamp = last_stamp.wrapping_add(self.step());
+        match self.rng.below(8) {
+            0 => Call::SampleCount {
+                busy: self.busy(),
+                stamp,
+            },
+            1 => Call::SampleWords {
+                words: self.words(),
+                stamp,
+            },
+            2..=4 => self.offer(stamp),
+            _ => Call::Poll { stamp },
+        }
+    }
+
+    fn step(&mut self) -> u32 {
+        let left = self.left.min(2_000_000);
+        let step = match self.rng.below(40) {
+            0..=7 => 0,
+            8..=15 => self.rng.below(100),
+            16..=25 => self.rng.below(30_000),
+            26..=28 => self.rng.below(1_200_000),
+            29..=33 => left,
+            34..=35 => left.saturating_sub(1),
+            36..=37 => left + 1,
+            38 => return self.rng.next_u32() | 1 << 31, // the clock goes back
+            _ if self.rng.one_in(40) => self.rng.below(1 << 31),
+            _ => 1,
+        };
+        step as u32
+    }
+
+    fn busy(&mut self) -> u32 {
+        if self.rng.one_in(3_000) {
+            self.mood = self.rng.pick(&[0, 250, 400, 550, 700, 900]);
+        }
+        if self.rng.one_in(20) {
+            return self.rng.pick(&[1_001, 5_000, u32::MAX]);
+        }
+        (self.mood + self.rng.below(101) as u32).min(1_000)
+    }
+
+    fn words(&mut self) -> Vec<u64> {
+        let busy = self.busy();
+        let mut words = words(busy.min(1_000));
+        if busy > 1_000 {
+            words.pop();
+        } else if self.rng.one_in(20) {
+            words[15] |= 1 << (40 + self.rng.below(24));
+        }
+        words
+    }
+
+    fn offer(&mut self, stamp: u32) -> Call {
+        let most = rules::on_time_max(self.profile).unwrap();
+        let mut ontime = self.rng.pick(&[1, most / 5, most / 2, most, most]);
+        let mut priority = self.rng.below(4) as u32;
+        let mut lifetime = self
+            .rng
+            .pick(&[1, 50, 20_000, 300_000, 3_000_000, 60_000_000]);
+        match self.rng.below(60) {
+            0 => ontime = self.rng.pick(&[0, most + 1, u32::MAX]),
+            1 => priority = self.rng.pick(&[4, 256, u32::MAX]),
+            2 => lifetime = self.rng.pick(&[0, 60_000_001, u32::MAX]),
+            _ => {}
+        }
+        let id = self.rng.below(1_000) as u32;
+        Call::Offer {
+            id,
+            priority,
+            ontime,
+            lifetime,
+            stamp,
+        }
+    }
+}
+
+/// The book's columns hold what the state's queues hold.
+fn columns_agree(book: &Book, state: &State) {
+    assert_eq!((book.time(), book.stamp()), (state.time, state.stamp));
+    for (column, queue) in book.columns().iter().zip(&state.queues) {
+        let column: Vec<Packet> = column.iter().map(|entry| entry.packet).collect();
+        assert_eq!(column, queue.waiting());
+    }
+}
+
+fn name(answer: &Answer) -> String {
+    match answer {
+        Answer::Refused(number) => format!("REFUSED {number}"),
+        other => reference::log::line(other)
+            .split(' ')
+            .next()
+            .unwrap()
+            .to_string(),
+    }
+}
+
+/// Runs so many calls; how often each answer came, and the book.
+fn run(profile: u32, seed: u64, calls: u32) -> (BTreeMap<String, u32>, Book) {
+    let first = seed as u32 ^ 0xF000_0000;
+    let (mut state, _) = gate::make(profile, first);
+    let mut book = Book::new(first);
+    let mut caller = Caller::new(profile, seed);
+    let mut answers = BTreeMap::new();
+    for _ in 0..calls {
+        let call = caller.call(state.stamp);
+        let (next, answer) = gate::call(state, &call);
+        if let Err(broken) = book.feed(&call, &answer) {
+            panic!("profile {profile}, seed {seed}: {broken}");
+        }
+        assert!(sound(&next));
+        columns_agree(&book, &next);
+        caller.heard(&answer);
+        *answers.entry(name(&answer)).or_default() += 1;
+        state = next;
+    }
+    (answers, book)
+}
+
+fn claim_holds(profile: u32) {
+    for seed in [1, 2] {
+        let (answers, book) = run(profile, seed, 100_000);
+        for wanted in ["TAKEN", "SENT", "IDLE", "CLOSED"] {
+            assert!(answers[wanted] > 1_000, "{wanted}: {answers:?}");
+        }
+        for wanted in [2, 4, 5, 6, 7, 8] {
+            let times = answers.get(&format!("REFUSED {wanted}"));
+            assert!(
+                times.is_some_and(|&times| times > 10),
+                "{wanted}: {answers:?}"
+            );
+        }
+        let there: usize = book.columns().iter().map(|column| column.len()).sum();
+        assert_eq!(
+            book.offers(),
+            book.admissions() + book.expiries() + there as u64
+        );
+        assert!(book.expiries() > 1_000);
+        assert!(book.closest().most_seen >= 3);
+        assert!(book.closest().latest_closed > Some(900_000));
+    }
+}
+
+#[test]
+fn the_claim_holds_in_profile_1() {
+    claim_holds(1);
+    let (_, book) = run(1, 3, 50_000);
+    assert_eq!(book.closest().shortest_gap, Some(100_000));
+    assert_eq!(book.closest().smallest_slack, Some(300_000));
+}
+
+#[test]
+fn the_claim_holds_in_profile_2() {
+    claim_holds(2);
+    let (_, book) = run(2, 3, 50_000);
+    assert_eq!(book.closest().shortest_gap, Some(50_000));
+    assert_eq!(book.closest().smallest_slack, Some(350_000));
+}
+
+#[test]
+fn the_claim_holds_in_profile_3() {
+    claim_holds(3);
+    let (_, book) = run(3, 3, 50_000);
+    assert_eq!(book.closest().shortest_gap, Some(25_000));
+    // One packet of 4,000 µs alone takes the whole 400,000.
+    assert_eq!(book.closest().smallest_slack, Some(0));
+}
+
+#[test]
+fn the_ceiling_is_kept_at_the_greatest_duty_and_load() {
+    let (mut state, _) = gate::make(3, 0);
+    state.duty = 30_000_000;
+    let mut book = Book::new(0);
+    let mut stamp = 0u32;
+    for turn in 0..20_000 {
+        let ontime = [4_000, 751, 750, 3_999][turn % 4];
+        let (priority, lifetime) = (turn as u32 % 4, 60_000_000);
+        let offer = Call::Offer {
+            id: 1,
+            priority,
+            ontime,
+            lifetime,
+            stamp,
+        };
+        for call in [offer, Call::Poll { stamp }] {
+            let (next, answer) = gate::call(state, &call);
+            book.feed(&call, &answer).unwrap();
+            state = next;
+        }
+        let wait = rules::wait(3, 0, state.duty, state.ontime).unwrap();
+        stamp = stamp.wrapping_add(wait);
+    }
+    assert_eq!(book.admissions(), 20_000);
+}

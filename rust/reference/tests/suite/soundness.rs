@@ -1,0 +1,429 @@
+//! "A state is sound if": each rule broken alone, and odd states that are sound.
+
+use crate::help::{assert_refused, fresh, late, Answer, PROFILES};
+use reference::gate;
+use reference::state::{broken_rules, rule_names, sound, Packet, State};
+
+/// The lengths tried; each queue is tried at 0 to 5.
+const LENGTHS: [[usize; 4]; 6] = [
+    [0, 1, 2, 3],
+    [1, 2, 3, 4],
+    [2, 3, 4, 5],
+    [3, 4, 5, 0],
+    [4, 5, 0, 1],
+    [5, 0, 1, 2],
+];
+
+/// The sound states that the rules are broken on.
+fn starts() -> Vec<State> {
+    let mut starts = Vec::new();
+    for profile in PROFILES {
+        starts.push(fresh(profile));
+        for lengths in LENGTHS {
+            starts.push(late(profile, lengths));
+        }
+    }
+    starts
+}
+
+/// The state breaks just that rule, and every call refuses it with 9.
+fn breaks_only(state: &State, rule: &str) {
+    assert_eq!(broken_rules(state), [rule], "{state:?}");
+    all_calls_refuse(state);
+}
+
+fn all_calls_refuse(state: &State) {
+    assert!(!sound(state));
+    let stamp = state.stamp;
+    assert_refused(*state, gate::sample_words(*state, &[0; 16], stamp), 9);
+    assert_refused(*state, gate::sample_count(*state, 0, stamp), 9);
+    assert_refused(*state, gate::offer(*state, 1, 0, 1, 1, stamp), 9);
+    assert_refused(*state, gate::poll(*state, stamp), 9);
+}
+
+fn is_sound(state: &State) {
+    assert_eq!(broken_rules(state), Vec::<&str>::new());
+    assert!(sound(state));
+    assert!(!matches!(
+        gate::poll(*state, state.stamp).1,
+        Answer::Refused(_)
+    ));
+}
+
+/// A change to a packet.
+type Change = Box<dyn Fn(&mut Packet)>;
+
+/// Makes each change alone to each waiting packet of each start.
+fn each_waiting_packet(rule: &str, changes: &[Change]) {
+    let mut tried = 0;
+    for start in starts() {
+        for q in 0..4 {
+            for slot in 0..start.queues[q].waiting().len() {
+                for change in changes {
+                    let mut state = start;
+                    change(&mut state.queues[q].slots[slot]);
+                    breaks_only(&state, rule);
+                    tried += 1;
+                }
+            }
+        }
+    }
+    // Every slot of every queue, in each of the three profiles.
+    assert_eq!(tried, 3 * 4 * (1 + 2 + 3 + 4 + 5) * changes.len());
+}
+
+#[test]
+fn fresh_and_late_states_are_sound() {
+    for start in starts() {
+        is_sound(&start);
+    }
+    for stamp in [0, 1, u32::MAX] {
+        is_sound(&State { stamp, ..fresh(2) });
+    }
+}
+
+#[test]
+fn the_not_live_state_is_not() {
+    let zero = State::default();
+    let broken = broken_rules(&zero);
+    assert_eq!(broken, ["live", "profile 1 to 3", "duty within limits"]);
+    all_calls_refuse(&zero);
+}
+
+#[test]
+fn live() {
+    for start in starts() {
+        breaks_only(
+            &State {
+                live: false,
+                ..start
+            },
+            "live",
+        );
+    }
+}
+
+#[test]
+fn profile() {
+    for profile in [0, 4, 5, 257, u32::MAX] {
+        breaks_only(
+            &State {
+                profile,
+                ..fresh(1)
+            },
+            "profile 1 to 3",
+        );
+        // With packets waiting it allows no on-time either.
+        all_calls_refuse(&State {
+            profile,
+            ..late(1, [1, 0, 0, 0])
+        });
+    }
+}
+
+#[test]
+fn level() {
+    for start in starts() {
+        is_sound(&State { level: 4, ..start });
+        for level in [5, 256, u32::MAX] {
+            breaks_only(&State { level, ..start }, "level at most 4");
+        }
+    }
+}
+
+#[test]
+fn duty() {
+    for start in starts() {
+        is_sound(&State {
+            duty: 600_000,
+            ..start
+        });
+        is_sound(&State {
+            duty: 30_000_000,
+            ..start
+        });
+        for duty in [0, 599_999, 30_000_001, u32::MAX] {
+            breaks_only(&State { duty, ..start }, "duty within limits");
+        }
+    }
+}
+
+#[test]
+fn smoothed_load() {
+    for start in starts() {
+        is_sound(&State {
+            smoothed: 1_000_000,
+            ..start
+        });
+        for smoothed in [1_000_001, u32::MAX] {
+            let state = State { smoothed, ..start };
+            breaks_only(&state, "smoothed load at most 1,000,000");
+        }
+    }
+}
+
+#[test]
+fn kept_sample() {
+    for start in starts() {
+        let keeping = State {
+            haskept: true,
+            ..start
+        };
+        if start.profile == 3 {
+            is_sound(&keeping);
+            is_sound(&State {
+                kept: 1_000_000,
+                ..keeping
+            });
+            for kept in [1_000_001, u32::MAX] {
+                let state = State { kept, ..keeping };
+                breaks_only(&state, "kept load at most 1,000,000");
+            }
+        } else {
+            breaks_only(&keeping, "sample kept only in profile 3");
+            let state = State { kept: 5, ..keeping };
+            breaks_only(&state, "sample kept only in profile 3");
+        }
+        for kept in [1, 1_000_000] {
+            let state = State { kept, ..start };
+            breaks_only(&state, "kept load zero when none kept");
+        }
+    }
+}
+
+#[test]
+fn running_time() {
+    for start in starts() {
+        is_sound(&State {
+            time: 1_000_000_000_000_000,
+            ..start
+        });
+        for time in [1_000_000_000_000_001, u64::MAX] {
+            breaks_only(&State { time, ..start }, "running time at most 10^15");
+        }
+    }
+}
+
+#[test]
+fn admission() {
+    for start in starts() {
+        let admitted = State {
+            any: true,
+            at: start.time,
+            ontime: 1,
+            ..start
+        };
+        is_sound(&admitted);
+        is_sound(&State { at: 0, ..admitted });
+        for at in [start.time + 1, u64::MAX] {
+            let state = State { at, ..admitted };
+            breaks_only(&state, "admission not after running time");
+        }
+        let most = [1_000, 500, 4_000][start.profile as usize - 1];
+        is_sound(&State {
+            ontime: most,
+            ..admitted
+        });
+        for ontime in [0, most + 1, u32::MAX] {
+            let state = State { ontime, ..admitted };
+            breaks_only(&state, "admission on-time allowed");
+        }
+    }
+}
+
+#[test]
+fn admission_fields_before_the_first() {
+    for start in starts() {
+        let none = State {
+            any: false,
+            at: 0,
+            ontime: 0,
+            ..start
+        };
+        is_sound(&none);
+        for at in [1, start.time.max(1), u64::MAX] {
+            let state = State { at, ..none };
+            breaks_only(&state, "admission time zero before the first");
+        }
+        for ontime in [1, u32::MAX] {
+            let state = State { ontime, ..none };
+            breaks_only(&state, "admission on-time zero before the first");
+        }
+    }
+}
+
+#[test]
+fn queue_length_above_5() {
+    for start in starts() {
+        for q in 0..4 {
+            for len in [6, 7, 256, (1 << 32) + 2, 1 << 63, u64::MAX] {
+                let mut state = start;
+                state.queues[q].len = len;
+                breaks_only(&state, "queue length at most 5");
+            }
+        }
+    }
+}
+
+#[test]
+fn queue_length_that_is_not_the_packets() {
+    for start in starts() {
+        for q in 0..4 {
+            let length = start.queues[q].len;
+            for len in (0..=5).filter(|&len| len != length) {
+                let mut state = start;
+                state.queues[q].len = len;
+                all_calls_refuse(&state);
+                if len < length {
+                    breaks_only(&state, "slots past the length zero");
+                }
+            }
+        }
+    }
+}
+
+#[test]
+fn waiting_on_time() {
+    let zero: Change = Box::new(|packet| packet.ontime = 0);
+    let more: Change = Box::new(|packet| packet.ontime += 1); // they hold the most
+    let most: Change = Box::new(|packet| packet.ontime = u32::MAX);
+    each_waiting_packet("waiting on-time allowed", &[zero, more, most]);
+}
+
+#[test]
+fn waiting_lifetime() {
+    let zero: Change = Box::new(|packet| packet.lifetime = 0);
+    let more: Change = Box::new(|packet| packet.lifetime = 60_000_001);
+    let most: Change = Box::new(|packet| packet.lifetime = u32::MAX);
+    each_waiting_packet("waiting lifetime within limits", &[zero, more, most]);
+}
+
+#[test]
+fn waiting_priority() {
+    let up: Change = Box::new(|packet| packet.priority += 1);
+    let round: Change = Box::new(|packet| packet.priority = (packet.priority + 3) % 4);
+    let past: Change = Box::new(|packet| packet.priority = 4);
+    let wide: Change = Box::new(|packet| packet.priority += 256);
+    let most: Change = Box::new(|packet| packet.priority = u32::MAX);
+    let changes = [up, round, past, wide, most];
+    each_waiting_packet("waiting in its own priority's queue", &changes);
+}
+
+#[test]
+fn waiting_arrival_after_the_running_time() {
+    for start in starts() {
+        for q in 0..4 {
+            let length = start.queues[q].waiting().len();
+            for slot in 0..length {
+                for late in [start.time + 1, u64::MAX] {
+                    let mut state = start;
+                    // Those behind it too, so that their order is kept.
+                    for packet in &mut state.queues[q].slots[slot..length] {
+                        packet.arrival = late;
+                    }
+                    breaks_only(&state, "arrival not after running time");
+                }
+            }
+        }
+    }
+}
+
+#[test]
+fn waiting_arrivals_out_of_order() {
+    for start in starts() {
+        for q in 0..4 {
+            for slot in 1..start.queues[q].waiting().len() {
+                let mut state = start;
+                let before = state.queues[q].slots[slot - 1].arrival;
+                state.queues[q].slots[slot].arrival = before;
+                is_sound(&state);
+                state.queues[q].slots[slot].arrival = before - 1;
+                breaks_only(&state, "arrivals not decreasing");
+            }
+        }
+    }
+}
+
+#[test]
+fn unused_slots_not_zero() {
+    let fields: [fn(&mut Packet); 5] = [
+        |slot| slot.id = 1,
+        |slot| slot.priority = 1,
+        |slot| slot.ontime = 1,
+        |slot| slot.lifetime = 1,
+        |slot| slot.arrival = 1,
+    ];
+    for start in starts() {
+        for q in 0..4 {
+            for slot in start.queues[q].waiting().len()..5 {
+                for field in fields {
+                    let mut state = start;
+                    field(&mut state.queues[q].slots[slot]);
+                    breaks_only(&state, "slots past the length zero");
+                }
+            }
+        }
+    }
+}
+
+#[test]
+fn odd_but_sound() {
+    for profile in [1, 2] {
+        let odd = State {
+            duty: 7_654_321,
+            smoothed: 1_000_000,
+            ..fresh(profile)
+        };
+        is_sound(&odd);
+    }
+    for level in 1..=4 {
+        is_sound(&State { level, ..fresh(3) });
+    }
+    for profile in PROFILES {
+        // Expired packets still wait, as a sample leaves them.
+        let mut state = late(profile, [5, 5, 5, 5]);
+        state.time += 60_000_000;
+        is_sound(&state);
+        // An admission at time 0, and one younger than no packet.
+        is_sound(&State { at: 0, ..state });
+        // Any identifier, repeats too, and arrivals all alike.
+        for slot in &mut state.queues[2].slots {
+            slot.id = u32::MAX;
+            slot.arrival = state.time;
+        }
+        is_sound(&state);
+        // Admissions closer than any wait cannot be seen in a state.
+        is_sound(&State {
+            at: state.time,
+            ..state
+        });
+    }
+}
+
+#[test]
+fn several_rules_at_once_are_all_named() {
+    let mut state = State {
+        level: 9,
+        smoothed: u32::MAX,
+        kept: u32::MAX,
+        time: u64::MAX,
+        at: 1,
+        ontime: 1,
+        ..State::default()
+    };
+    state.queues[0].len = 2;
+    state.queues[0].slots[0].arrival = 1;
+    state.queues[1].len = u64::MAX;
+    state.queues[2].slots[0].id = 1;
+    let broken = broken_rules(&state);
+    let unbroken = [
+        "sample kept only in profile 3",
+        "admission not after running time",
+        "admission on-time allowed",
+        "waiting in its own priority's queue",
+        "arrival not after running time",
+    ];
+    let mut expected = rule_names();
+    expected.retain(|name| !unbroken.contains(name));
+    assert_eq!(broken, expected);
+}
