@@ -41,7 +41,7 @@ refusals-change-nothing v c =
     (λ e r. cc)
 
 -- no check has the number 0
-numbered : (v : View) (c : Call) → Numbered (checks v c)
+pub numbered : (v : View) (c : Call) → Numbered (checks v c)
 unfolding checks
 numbered v (words stamp ws) = omega arith
 numbered v (count stamp busy) = omega arith

@@ -1,0 +1,43 @@
+use native.Mathlib.Omega.{arith}
+use borrow.Author.Needs.{needs}
+use borrow.Author.Tests.{eq-eqb, ne-eqb}
+use Rattle.decide.specs.Decisions.{leftAt}
+use Rattle.decide.proofs.Limits.{duty-limits, at-le, last-ontime-le}
+use Rattle.decide.proofs.left_of.Statement.{statement}
+use Rattle.decide.proofs.left_of.Tie as tie
+
+returns : tie.Need-returns
+unfolding leftAt
+returns c = simp (ne-eqb _ _ (c .if1 .taken))
+
+wait-requires : tie.Need-wait-requires
+wait-requires c κs =
+    let s = c .before .before in
+    let a = s .args in
+    (last-ontime-le (a .k .profile) (a .now) (a .l) (s .pre .1) (eq-eqb _ _ (c .if1 .left)), duty-limits (a .k) (s .pre .0))
+
+cast-wait : tie.Need-cast-wait
+cast-wait c = search needs
+
+sub-passed : tie.Need-sub-passed
+sub-passed c =
+    let s = c .before .before .before .before in
+    let a = s .args in
+    at-le (a .k .profile) (a .now) (a .l) (s .pre .1)
+
+sub-result : tie.Need-sub-result
+sub-result c = search needs
+
+returns-2 : tie.Need-returns-2
+unfolding leftAt
+returns-2 c =
+    let w = c .before .before in simp (eq-eqb _ _ (w .before .if1 .left), ← (w .wait .ensures))
+
+returns-3 : tie.Need-returns-3
+unfolding leftAt
+returns-3 c =
+    let w = c .before .before in rw (eq-eqb _ _ (w .before .if1 .left), ← (w .wait .ensures)) (omega (arith, c .if2 .left))
+
+pub left-of-spec : {M : Type 1} → statement M
+left-of-spec =
+    tie.close (tie.spec returns wait-requires cast-wait sub-passed sub-result returns-2 returns-3)

@@ -1,0 +1,156 @@
+-- A plan done is the call: a refusal's plan changes nothing, and an accepted plan does to the arrays what the model does to
+-- the lists.
+use Prim.Native.Nat.{ℕ, zero, suc, _+_, _-_, _≤_, _<_}
+use mathlib.Core.Path.{_≡_, refl, ap, ap₂, sym, _∙_, subst, subst⁻¹}
+use mathlib.Core.Bool.{Bool, true, false, cond, not, _&&_}
+use mathlib.Core.List.{List, [], _∷_}
+use native.Mathlib.Omega.{arith}
+use lib.Dec.{ltb, leb, eqb}
+use lib.ListN.{length, drop, set}
+use borrow.Author.Tests.{eqb-true, eqb-false, ltb-false, leb-false}
+use Rattle.rules.specs.Refusals.{firstOf, NoneHolds}
+use Rattle.rules.proofs.Cases.{split, on-cond}
+use Rattle.rules.proofs.Refusals.{of-none}
+use Rattle.model.specs.declared.Packet.{Packet}
+use Rattle.model.specs.declared.Clock.{Clock}
+use Rattle.model.specs.declared.Answer.{Answer}
+use Rattle.model.specs.declared.Answer.the-variants.{Taken, Sent, Idle, Closed, Refused}
+use Rattle.model.specs.Queues.{Four, each, column, change}
+use Rattle.model.specs.Answers.{isRefused}
+use Rattle.model.specs.View as view
+use Rattle.model.specs.View.{View, yes}
+use Rattle.model.specs.Sound.{room}
+use Rattle.model.specs.Calls.{Call, words, count, offer, poll, stampOf}
+use Rattle.model.specs.Effects.{stepped, cleared, keep, atBack, choice, closed, waitNow, sinceLast, polled, effect}
+use Rattle.model.specs.Refusals.{checks}
+use Rattle.model.specs.Gate.{call}
+use Rattle.model.proofs.Refusals.{effect-accepts, numbered}
+use Rattle.queue.specs.declared.Queue.{Queue}
+use Rattle.queue.specs.Layout.{packed, Packed, pushed, popped}
+use Rattle.queue.proofs.Packing.{packed-Packed, pushed-packed}
+use Rattle.decide.specs.declared.Choice.{Choice}
+use Rattle.decide.specs.declared.Choice.the-variants.{Nothing, Next}
+use Rattle.decide.specs.declared.Edit.{Edit}
+use Rattle.decide.specs.declared.Edit.the-variants.{Keep, Push, Pop}
+use Rattle.decide.specs.declared.Plan.{Plan}
+use Rattle.decide.specs.Decisions.{leftAt}
+use Rattle.decide.specs.Plans.{edited, EditFits, plan, pollPlan}
+use Rattle.gate.specs.declared.State.{State}
+use Rattle.gate.specs.declared.Outcome.{Outcome}
+use Rattle.gate.specs.Layout.{queueAt, queuesOf, viewOf, stateOf, LaidOut, soundState, gives, outcomeOf, callOn}
+use Rattle.gate.specs.Requests.{refusalOn, chosenFrom}
+use Rattle.gate.specs.Plans.{acceptedPlan, planOn, clearedTo, done, Fits}
+use Rattle.gate.proofs.Queues.{set-same, cleared-none, cleared-all, at-packed, set-packed, popped-packed}
+use Rattle.gate.proofs.Choosing.{firstOf4, searched, meant, chosen-first, InQueues, in-queues, left-closed, left-open}
+
+-- an accepted outcome of the model, laid out
+abbrev pub laid : view.Outcome → Outcome
+laid o = gives (stateOf (o .view)) (o .answer)
+
+-- a state with other queues, clock, control and last admission
+abbrev with : State → Plan → List Queue → Outcome
+with s p qs = gives (record { queues = qs; clock = p .clock; control = p .control; last = p .last; live = s .live }) (p .answer)
+
+-- queues that a plan leaves as they are
+abbrev untouched : (s : State) (p : Plan) → p .clears ≡ 0 → p .edit ≡ Keep → done s p ≡ with s p (s .queues)
+unfolding done edited
+untouched s p n e =
+    ap₂ (λ (k : ℕ) (x : Edit). with s p (set (clearedTo k (p .clock .time) (s .queues)) (p .at) (edited x (queueAt (clearedTo k (p .clock .time) (s .queues)) (p .at))))) n e
+    ∙ ap (with s p) (set-same (clearedTo 0 (p .clock .time) (s .queues)) (p .at) ∙ cleared-none (p .clock .time) (s .queues))
+
+-- queues that lose their expired packets, and no more
+only-cleared : (v : View) (p : Plan) → p .clears ≡ 4 → p .edit ≡ Keep
+    → done (stateOf v) p ≡ with (stateOf v) p (queuesOf (each (keep (p .clock .time)) (v .queues)))
+unfolding done edited
+only-cleared v p n e =
+    ap₂ (λ (k : ℕ) (x : Edit). with (stateOf v) p (set (clearedTo k (p .clock .time) (queuesOf (v .queues))) (p .at) (edited x (queueAt (clearedTo k (p .clock .time) (queuesOf (v .queues))) (p .at))))) n e
+    ∙ ap (with (stateOf v) p) (set-same (clearedTo 4 (p .clock .time) (queuesOf (v .queues))) (p .at) ∙ cleared-all (p .clock .time) (v .queues))
+
+-- and one of them edited
+abbrev EditsTo : Edit → (List Packet → List Packet) → Type 0
+EditsTo e f = (ps : List Packet) → edited e (packed ps) ≡ packed (f ps)
+
+edits : (v : View) (p : Plan) (f : List Packet → List Packet) → p .clears ≡ 4 → p .at ≤ 3 → EditsTo (p .edit) f
+    → done (stateOf v) p ≡ with (stateOf v) p (queuesOf (change (p .at) f (each (keep (p .clock .time)) (v .queues))))
+unfolding done
+edits v p f n k h =
+    let q = each (keep (p .clock .time)) (v .queues) in
+    ap (λ (m : ℕ). with (stateOf v) p (set (clearedTo m (p .clock .time) (queuesOf (v .queues))) (p .at) (edited (p .edit) (queueAt (clearedTo m (p .clock .time) (queuesOf (v .queues))) (p .at))))) n
+    ∙ ap (λ (qs : List Queue). with (stateOf v) p (set qs (p .at) (edited (p .edit) (queueAt qs (p .at))))) (cleared-all (p .clock .time) (v .queues))
+    ∙ ap (λ (x : Queue). with (stateOf v) p (set (queuesOf q) (p .at) (edited (p .edit) x))) (at-packed q (p .at) k)
+    ∙ ap (λ (x : Queue). with (stateOf v) p (set (queuesOf q) (p .at) x)) (h (column (p .at) q))
+    ∙ ap (with (stateOf v) p) (set-packed q (p .at) f k)
+
+push-edits : (p : Packet) → EditsTo (Push p) (atBack p)
+unfolding edited
+push-edits p ps = pushed-packed ps p
+
+pop-edits : EditsTo Pop (drop 1)
+unfolding edited
+pop-edits ps = popped-packed ps
+
+-- a poll's plan done is the poll
+poll-done : (v : View) (stamp : ℕ) (c : Choice) → InQueues c
+    → done (stateOf v) (pollPlan (stepped (v .clock) stamp) (v .control) (v .last) c) ≡ laid (polled (cleared v stamp) (meant (cleared v stamp .queues) c))
+unfolding pollPlan leftAt closed
+poll-done v stamp Nothing h = only-cleared v _ refl refl
+poll-done v stamp (Next k p) h = split (closed w) shut open-up
+  where
+    w : View
+    w = cleared v stamp
+
+    shut : closed w ≡ true → done (stateOf v) (pollPlan (stepped (v .clock) stamp) (v .control) (v .last) (Next k p)) ≡ laid (polled w (meant (w .queues) (Next k p)))
+    shut e =
+        let f = left-closed (yes (v .last .any)) (sinceLast w) (waitNow w) e in
+        rw (f .0, f .1, e) (only-cleared v (plan (stepped (v .clock) stamp) (v .control) (v .last) 4 0 Keep (Closed (waitNow w - sinceLast w))) refl refl)
+
+    open-up : closed w ≡ false → done (stateOf v) (pollPlan (stepped (v .clock) stamp) (v .control) (v .last) (Next k p)) ≡ laid (polled w (meant (w .queues) (Next k p)))
+    open-up e =
+        rw (left-open (yes (v .last .any)) (sinceLast w) (waitNow w) e, e)
+        (edits v (plan (stepped (v .clock) stamp) (v .control) (record { at = w .clock .time; ontime = p .ontime; any = 1 }) 4 k Pop (Sent p)) (drop 1) refl h pop-edits)
+
+-- an accepted plan done is the call's effect
+effect-done : (v : View) (c : Call) → NoneHolds (checks v c) → done (stateOf v) (acceptedPlan (stateOf v) c) ≡ laid (effect v c)
+unfolding acceptedPlan effect checks
+effect-done v (words stamp ws) h = untouched (stateOf v) _ refl refl
+effect-done v (count stamp busy) h = untouched (stateOf v) _ refl refl
+effect-done v (offer stamp id priority ontime lifetime) h =
+    edits v _ (atBack (record { id = id; priority = priority; ontime = ontime; lifetime = lifetime; arrival = stepped (v .clock) stamp .time })) refl
+    (omega (arith, ltb-false 3 priority (h .1 .1 .1 .0)))
+    (push-edits (record { id = id; priority = priority; ontime = ontime; lifetime = lifetime; arrival = stepped (v .clock) stamp .time }))
+effect-done v (poll stamp) h =
+    let now = stepped (v .clock) stamp .time in
+    let c = firstOf4 (each (keep now) (v .queues)) in
+    ap (λ (x : Choice). done (stateOf v) (pollPlan (stepped (v .clock) stamp) (v .control) (v .last) x)) (searched now (v .queues))
+    ∙ poll-done v stamp c (in-queues (each (keep now) (v .queues)))
+    ∙ ap (λ (x : Rattle.model.specs.Effects.Choice). laid (polled (cleared v stamp) x)) (sym (chosen-first (each (keep now) (v .queues))))
+
+-- a refusal's plan done changes nothing
+refused-done : (s : State) (n : ℕ) → done s (plan (s .clock) (s .control) (s .last) 0 0 Keep (Refused n)) ≡ gives s (Refused n)
+refused-done s n = untouched s _ refl refl
+
+-- a plan done is the call
+pub call-done : (s : State) (c : Call) → (refusalOn s c ≡ 0 → LaidOut s) → callOn s c ≡ done s (planOn s c)
+unfolding callOn planOn refusalOn call
+call-done s c k = split (soundState s) sound unsound
+  where
+    v : View
+    v = viewOf s
+
+    n : ℕ
+    n = firstOf (checks v c)
+
+    unsound : soundState s ≡ false → callOn s c ≡ done s (planOn s c)
+    unsound e = rw e (sym (refused-done s 9))
+
+    sound : soundState s ≡ true → callOn s c ≡ done s (planOn s c)
+    sound e = split (eqb n 0) passed refused
+      where
+        passed : eqb n 0 ≡ true → callOn s c ≡ done s (planOn s c)
+        passed f =
+            rw (e, f, effect-accepts v c)
+            (subst⁻¹ (λ (x : State). laid (effect v c) ≡ done x (acceptedPlan x c)) (k (rw e (eqb-true n 0 f)))
+            (sym (effect-done v c (of-none (checks v c) (numbered v c) (eqb-true n 0 f)))))
+
+        refused : eqb n 0 ≡ false → callOn s c ≡ done s (planOn s c)
+        refused f = rw (e, f) (sym (refused-done s n))

@@ -1,0 +1,100 @@
+-- A sound state's call is its view's call laid out, so a run of states reads as a run of views, and demand 3 carries over.
+use Prim.Native.Nat.{ℕ, _≤_}
+use mathlib.Core.Path.{_≡_, refl, ap, ap₂, sym, _∙_, subst, subst⁻¹}
+use mathlib.Core.Bool.{Bool, true, false, cond, _&&_}
+use mathlib.Core.List.{List, [], _∷_}
+use lib.ListN.{length}
+use Rattle.rules.proofs.Cases.{split, on-cond, both}
+use Rattle.model.specs.declared.Packet.{Packet}
+use Rattle.model.specs.declared.Answer.{Answer}
+use Rattle.model.specs.declared.Answer.the-variants.{Ready}
+use Rattle.model.specs.Answers.{isRefused}
+use Rattle.model.specs.Queues.{Four}
+use Rattle.model.specs.View as view
+use Rattle.model.specs.View.{View}
+use Rattle.model.specs.Sound.{room, allOf, sound}
+use Rattle.model.specs.Calls.{Call}
+use Rattle.model.specs.Gate.{make, call}
+use Rattle.model.specs.Journal.{Event, opened, journalOf}
+use Rattle.model.specs.Claims.{Claims, viewAfter, events}
+use Rattle.model.proofs.Sound.{SoundView, test-view}
+use Rattle.model.proofs.Refusals.{refusals-change-nothing}
+use Rattle.model.proofs.KeepsSound.{calls-keep-sound}
+use Rattle.model.proofs.Demand3.{demand3}
+use Rattle.queue.specs.Layout.{packed, tidy}
+use Rattle.queue.proofs.Sound.{tidy-packed}
+use Rattle.gate.specs.declared.State.{State}
+use Rattle.gate.specs.declared.Outcome.{Outcome}
+use Rattle.gate.specs.Layout.{viewOf, stateOf, allTidy, soundState, gives, outcomeOf, callOn, makeState}
+use Rattle.gate.specs.Runs.{stateAfter, eventsOn, StateRun, Runs}
+use Rattle.gate.proofs.Views.{view-state}
+
+-- a sound view laid out is a sound state
+pub state-sound : (v : View) → sound v ≡ true → soundState (stateOf v) ≡ true
+unfolding soundState
+state-sound v e =
+    let q = test-view v e .queues in
+    rw (tidy-packed (v .queues .c0) (q .0 .size), tidy-packed (v .queues .c1) (q .1 .size), tidy-packed (v .queues .c2) (q .2 .size), tidy-packed (v .queues .c3) (q .3 .size), view-state v)
+    e
+
+view-of : (s : State) → soundState s ≡ true → sound (viewOf s) ≡ true
+unfolding soundState
+view-of s e = both (allTidy (s .queues)) (sound (viewOf s)) e .1
+
+-- what a state's outcome has in common with its view's
+abbrev Reads : view.Outcome → Outcome → Type 0
+Reads w o = (viewOf (o .state) ≡ w .view) × (o .answer ≡ w .answer) × (soundState (o .state) ≡ true)
+
+call-reads : (s : State) (c : Call) → soundState s ≡ true → Reads (call (viewOf s) c) (callOn s c)
+unfolding callOn
+call-reads s c e =
+    rw e
+    (on-cond (Reads w) (isRefused (w .answer))
+    (λ r. (sym (refusals-change-nothing (viewOf s) c r), refl, e))
+    (λ r. (view-state (w .view), refl, state-sound (w .view) (calls-keep-sound (viewOf s) c (view-of s e)))))
+  where
+    w : view.Outcome
+    w = call (viewOf s) c
+
+-- a run of states, read as a run of views
+pub record RunReads (s : State) (cs : List Call) : Type 0 where
+  pub is-sound : soundState (stateAfter s cs) ≡ true
+  pub view : viewOf (stateAfter s cs) ≡ viewAfter (viewOf s) cs
+  pub answers : eventsOn s cs ≡ events (viewOf s) cs
+
+pub run-reads : (s : State) (cs : List Call) → soundState s ≡ true → RunReads s cs
+unfolding stateAfter eventsOn viewAfter events
+run-reads s [] e = record { is-sound = e; view = refl; answers = refl }
+run-reads s (c ∷ cs) e =
+    let r = call-reads s c e in
+    let n = run-reads (callOn s c .state) cs (r .2) in
+    record {
+      is-sound = n .is-sound;
+      view = n .view ∙ ap (λ (v : View). viewAfter v cs) (r .0);
+      answers =
+          ap₂ (λ (a : Answer) (l : List Event). record { call = c; answer = a } ∷ l) (r .1) (n .answers)
+          ∙ ap (λ (v : View). record { call = c; answer = call (viewOf s) c .answer } ∷ events v cs) (r .0);
+    }
+
+begins : (profile stamp : ℕ) → make profile stamp .answer ≡ Ready → sound (make profile stamp .view) ≡ true
+unfolding viewAfter
+begins profile stamp ready = demand3 profile stamp [] ready .sound-throughout
+
+-- demand 3 of the states that make hands out
+pub make-runs : (profile stamp : ℕ) → Runs (makeState profile stamp) profile stamp
+unfolding makeState
+make-runs profile stamp ready calls =
+    record {
+      sound-state = n .is-sound;
+      answers = n .answers;
+      claims =
+          subst⁻¹ (λ (v : View). Claims profile v (journalOf (opened stamp) (eventsOn (stateOf first) calls))) (n .view ∙ ap (λ (v : View). viewAfter v calls) (view-state first))
+          (subst⁻¹ (λ (l : List Event). Claims profile (viewAfter first calls) (journalOf (opened stamp) l)) (n .answers ∙ ap (λ (v : View). events v calls) (view-state first))
+          (demand3 profile stamp calls ready));
+    }
+  where
+    first : View
+    first = make profile stamp .view
+
+    n : RunReads (stateOf first) calls
+    n = run-reads (stateOf first) calls (state-sound first (begins profile stamp ready))

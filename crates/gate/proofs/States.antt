@@ -1,0 +1,126 @@
+-- The soundness of a state, as its code judges it: first the numbers, then each queue with its padding. A state whose four queues
+-- are packed is laid out.
+use Prim.Native.Nat.{ℕ, zero, suc, _+_, _≤_, _<_}
+use mathlib.Core.Path.{_≡_, refl, ap, sym, _∙_, subst⁻¹}
+use mathlib.Core.Bool.{Bool, true, false, _&&_, and-false}
+use mathlib.Core.List.{List, [], _∷_}
+use native.Mathlib.Numerals.{add-one}
+use native.Mathlib.Omega.{arith}
+use lib.ListN.{length, drop, drop-of-length-le}
+use lib.Seq.{drop-cons}
+use borrow.Author.Tests.{leb-true, leb-false, le-leb, lt-leb, ltb-true, ltb-false, ne-eqb}
+use Rattle.rules.specs.Clock.{endOfTime, passesEnd}
+use Rattle.rules.proofs.Cases.{split}
+use Rattle.model.specs.View.{yes}
+use Rattle.model.specs.Sound.{allOf, controlRules, lastRules, queueSound, sound}
+use Rattle.queue.specs.declared.Queue.{Queue}
+use Rattle.queue.specs.Layout.{items, Packed, tidy, soundQueue}
+use Rattle.gate.specs.declared.State.{State}
+use Rattle.gate.specs.Layout.{noQueue, queueAt, listsOf, queuesOf, LaidOut, allTidy, soundState}
+use Rattle.gate.specs.Requests.{soundQueues}
+use lib.Dec.{leb}
+
+four-long : (qs : List Queue) → length qs ≡ 4 → qs ≡ queueAt qs 0 ∷ queueAt qs 1 ∷ queueAt qs 2 ∷ queueAt qs 3 ∷ []
+four-long [] h = absurd (omega arith)
+four-long (a ∷ []) h = absurd (omega arith)
+four-long (a ∷ b ∷ []) h = absurd (omega arith)
+four-long (a ∷ b ∷ c ∷ []) h = absurd (omega arith)
+four-long (a ∷ b ∷ c ∷ d ∷ []) h = refl
+four-long (a ∷ b ∷ c ∷ d ∷ e ∷ qs) h = absurd (omega arith)
+
+-- each of the first n queues is packed
+abbrev pub AllPacked : ℕ → List Queue → Type 0
+AllPacked n qs = (k : ℕ) → k < n → Packed (queueAt qs k)
+
+pub more-packed : (n : ℕ) (qs : List Queue) → AllPacked n qs → Packed (queueAt qs n) → AllPacked (n + 1) qs
+more-packed n qs f p k h =
+    split (leb n k)
+    (λ e. let same : k ≡ n = omega (arith, leb-true n k e) in subst⁻¹ (λ (x : ℕ). Packed (queueAt qs x)) same p)
+    (λ e. f k (leb-false n k e))
+
+pub laid-out : (s : State) → length (s .queues) ≡ 4 → AllPacked 4 (s .queues) → LaidOut s
+laid-out s h f = λ i. record { queues = same i; clock = s .clock; control = s .control; last = s .last; live = s .live }
+  where
+    same : s .queues ≡ queuesOf (listsOf (s .queues))
+    same =
+        four-long (s .queues) h
+        ∙ (λ i. f 0 (omega arith) i ∷ f 1 (omega arith) i ∷ f 2 (omega arith) i ∷ f 3 (omega arith) i ∷ [])
+
+-- tests of two kinds, taken by kind or by queue
+regroup : (a b c d p q r s : Bool) → (a && (b && (c && (d && true)))) && (p && (q && (r && (s && true)))) ≡ (a && p) && ((b && q) && ((c && r) && ((d && s) && true)))
+regroup false b c d p q r s = refl
+regroup true false c d p q r s = sym (and-false p)
+regroup true true false d p q r s = simp and-false
+regroup true true true false p q r s = simp and-false
+regroup true true true true p q r s = refl
+
+-- tests that hold do not count
+skipped : (t u v w x rest : Bool) → u ≡ true → v ≡ true → w ≡ true → x ≡ true → t && (u && (v && (w && (x && rest)))) ≡ t && rest
+skipped t u v w x rest a b c d = rw (a, b, c, d)
+
+-- where the numbers are sound, the state is exactly if its queues are
+pub sound-by-queues : (s : State) → length (s .queues) ≡ 4 → yes (s .live) ≡ true → allOf (controlRules (s .control)) ≡ true
+    → leb (s .clock .time) endOfTime ≡ true → allOf (lastRules (s .control .profile) (s .clock .time) (s .last)) ≡ true
+    → soundState s ≡ soundQueues (s .control .profile) (s .clock .time) 0 (s .queues)
+unfolding soundState sound soundQueues soundQueue
+sound-by-queues s h a b c d =
+    skipped (allTidy qs) (yes (s .live)) (allOf (controlRules (s .control))) (leb now endOfTime) (allOf (lastRules profile now (s .last)))
+    (judge 0 && (judge 1 && (judge 2 && (judge 3 && true)))) a b c d
+    ∙ regroup (tidy (queueAt qs 0)) (tidy (queueAt qs 1)) (tidy (queueAt qs 2)) (tidy (queueAt qs 3)) (judge 0) (judge 1) (judge 2) (judge 3)
+    ∙ ap (soundQueues profile now 0) (sym (four-long qs h))
+  where
+    qs : List Queue
+    qs = s .queues
+
+    profile : ℕ
+    profile = s .control .profile
+
+    now : ℕ
+    now = s .clock .time
+
+    judge : ℕ → Bool
+    judge k = queueSound profile now k (items (queueAt qs k))
+
+-- the queues that are left
+pub next-queue : (profile now k : ℕ) (qs : List Queue) (i : ℕ) → i < length qs
+    → soundQueues profile now k (drop i qs) ≡ (soundQueue profile now k (queueAt qs i) && soundQueues profile now (k + 1) (drop (i + 1) qs))
+unfolding soundQueues
+next-queue profile now k qs i h = rw (add-one i, drop-cons qs i noQueue)
+
+pub no-queue : (profile now k : ℕ) (qs : List Queue) (i : ℕ) → length qs ≤ i → soundQueues profile now k (drop i qs) ≡ true
+unfolding soundQueues
+no-queue profile now k qs i h = rw (drop-of-length-le qs h)
+
+-- one test that fails fails all
+fails-second : (t u v rest : Bool) → v ≡ false → t && (u && (v && rest)) ≡ false
+fails-second t u v rest h = rw (h, and-false, and-false)
+
+fails-third : (t u v w rest : Bool) → w ≡ false → t && (u && (v && (w && rest))) ≡ false
+fails-third t u v w rest h = rw (h, and-false, and-false, and-false)
+
+fails-fourth : (t u v w x rest : Bool) → x ≡ false → t && (u && (v && (w && (x && rest)))) ≡ false
+fails-fourth t u v w x rest h = rw (h, and-false, and-false, and-false, and-false)
+
+-- a number that is not sound fails the state
+module _ (s : State) where
+  pub unsound-live : (s .live ≡ 1 → ⊥) → soundState s ≡ false
+  unfolding soundState sound
+  unsound-live h = simp (ne-eqb (s .live) 1 h, and-false)
+
+  pub unsound-control : allOf (controlRules (s .control)) ≡ false → soundState s ≡ false
+  unfolding soundState sound
+  unsound-control h = fails-second (allTidy (s .queues)) (yes (s .live)) (allOf (controlRules (s .control))) _ h
+
+  pub unsound-time : passesEnd (s .clock .time) ≡ true → soundState s ≡ false
+  unfolding soundState sound passesEnd
+  unsound-time h = fails-third (allTidy (s .queues)) (yes (s .live)) (allOf (controlRules (s .control))) (leb (s .clock .time) endOfTime) _ (lt-leb (s .clock .time) endOfTime (ltb-true endOfTime (s .clock .time) h))
+
+  pub unsound-last : allOf (lastRules (s .control .profile) (s .clock .time) (s .last)) ≡ false → soundState s ≡ false
+  unfolding soundState sound
+  unsound-last h =
+      fails-fourth (allTidy (s .queues)) (yes (s .live)) (allOf (controlRules (s .control))) (leb (s .clock .time) endOfTime)
+      (allOf (lastRules (s .control .profile) (s .clock .time) (s .last))) _ h
+
+pub in-time : (time : ℕ) → passesEnd time ≡ false → leb time endOfTime ≡ true
+unfolding passesEnd
+in-time time h = le-leb time endOfTime (ltb-false endOfTime time h)

@@ -1,0 +1,63 @@
+-- The plan of a call on a state, and what doing it gives.
+use Prim.Native.Nat.{ℕ, _≤_, _<_}
+use mathlib.Core.Path.{_≡_}
+use mathlib.Core.Bool.{true, cond}
+use mathlib.Core.List.{List, _++_, map}
+use lib.Dec.{eqb}
+use lib.ListN.{take, drop, set}
+use Rattle.rules.specs.Samples.{loadOf, probes, busyOf}
+use Rattle.model.specs.declared.Answer.the-variants.{Taken, Refused}
+use Rattle.model.specs.Calls.{Call, words, count, offer, poll}
+use Rattle.model.specs.Effects.{stepped, sampled}
+use Rattle.queue.specs.declared.Queue.{Queue}
+use Rattle.queue.specs.Layout.{cleared}
+use Rattle.decide.specs.declared.Edit.the-variants.{Keep, Push}
+use Rattle.decide.specs.declared.Plan.{Plan}
+use Rattle.decide.specs.Plans.{edited, EditFits, plan, pollPlan}
+use Rattle.gate.specs.declared.State.{State}
+use Rattle.gate.specs.declared.Outcome.{Outcome}
+use Rattle.gate.specs.Layout.{queueAt, LaidOut, soundState, gives}
+use Rattle.gate.specs.Requests.{refusalOn, chosenFrom}
+
+-- the plan of a call that nothing refuses
+unfoldable pub acceptedPlan : State → Call → Plan
+acceptedPlan s (words stamp ws) =
+    plan (stepped (s .clock) stamp) (sampled (s .control) (loadOf (busyOf ws probes))) (s .last) 0 0 Keep Taken
+acceptedPlan s (count stamp busy) =
+    plan (stepped (s .clock) stamp) (sampled (s .control) (loadOf busy)) (s .last) 0 0 Keep Taken
+acceptedPlan s (offer stamp id priority ontime lifetime) =
+    plan (stepped (s .clock) stamp) (s .control) (s .last) 4 priority
+    (Push (record { id = id; priority = priority; ontime = ontime; lifetime = lifetime; arrival = stepped (s .clock) stamp .time }))
+    Taken
+acceptedPlan s (poll stamp) =
+    pollPlan (stepped (s .clock) stamp) (s .control) (s .last) (chosenFrom (stepped (s .clock) stamp .time) 0 (s .queues))
+
+unfoldable pub planOn : State → Call → Plan
+planOn s c =
+    cond (eqb (refusalOn s c) 0) (acceptedPlan s c)
+    (plan (s .clock) (s .control) (s .last) 0 0 Keep (Refused (refusalOn s c)))
+
+-- the first n queues without their expired packets
+unfoldable pub clearedTo : ℕ → ℕ → List Queue → List Queue
+clearedTo n now qs = map (cleared now) (take n qs) ++ drop n qs
+
+-- a plan done
+unfoldable pub done : State → Plan → Outcome
+done s p =
+    let qs = clearedTo (p .clears) (p .clock .time) (s .queues) in
+    gives
+    (record {
+      queues = set qs (p .at) (edited (p .edit) (queueAt qs (p .at)));
+      clock = p .clock;
+      control = p .control;
+      last = p .last;
+      live = s .live;
+    })
+    (p .answer)
+
+-- what doing a plan needs: queues are cleared only in a sound state that is laid out, and the edit fits its queue
+pub record Fits (s : State) (p : Plan) : Type 0 where
+  pub clears : p .clears ≤ 4
+  pub at : p .at ≤ 3
+  pub laid : 0 < p .clears → LaidOut s × (soundState s ≡ true)
+  pub edit : EditFits (p .edit) (queueAt (clearedTo (p .clears) (p .clock .time) (s .queues)) (p .at))

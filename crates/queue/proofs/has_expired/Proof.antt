@@ -1,0 +1,76 @@
+-- The loop's invariant: the answer is the answer at the packets that are left.
+use Prim.Native.Nat.{_≤_, _-_}
+use mathlib.Core.Path.{_≡_, _∙_, sym, refl}
+use lib.ListN.{length, take, drop}
+use borrow.Author.Needs.{needs}
+use borrow.Author.Tests.{not-true, not-false}
+use native.Mathlib.Omega.{arith}
+use Rattle.queue.specs.Layout.{anyExpired}
+use Rattle.queue.proofs.Known.{five}
+use Rattle.queue.proofs.Walk.{next, done}
+use Rattle.queue.proofs.has_expired.Statement.{statement}
+use Rattle.queue.proofs.has_expired.Tie as tie
+
+abbrev Inv-loop : tie.InvT-loop
+Inv-loop now q n i₀ i = (i ≤ n) × (anyExpired now (take n (q .slots)) ≡ anyExpired now (drop i (take n (q .slots))))
+
+abbrev μ-loop : tie.MeasureT-loop
+μ-loop now q n i₀ i = n - i
+
+long : (c : tie.Start Inv-loop μ-loop) → c .args .t1 .len ≤ length (c .args .t1 .slots)
+long c = omega (arith, c .pre, five (c .args .t1) _ (c .good .0))
+
+loop-holds : tie.Need-loop-holds Inv-loop μ-loop
+loop-holds c = (omega arith, refl)
+
+mul-p : tie.Need-mul-p Inv-loop μ-loop
+mul-p c = search needs
+
+element-copy-out-p : tie.Need-element-copy-out-p Inv-loop μ-loop
+element-copy-out-p c = search needs
+
+is-unexpired-requires : tie.Need-is-unexpired-requires Inv-loop μ-loop
+is-unexpired-requires c κs = search needs
+
+returns : tie.Need-returns Inv-loop μ-loop
+unfolding anyExpired
+returns c =
+    let a = c .before .before .before .before in
+    let q = a .before .args .t1 in
+    sym (a .loop .inv .1 ∙ rw (next (q .slots) (q .len) (a .loop .i) (omega arith) (long (a .before)), sym (c .before .is-unexpired .ensures) ∙ not-true _ (c .if1 .taken)))
+
+add-i : tie.Need-add-i Inv-loop μ-loop
+add-i c = search needs
+
+loop-less : tie.Need-loop-less Inv-loop μ-loop
+loop-less c = search needs
+
+loop-again : tie.Need-loop-again Inv-loop μ-loop
+unfolding anyExpired
+loop-again c =
+    let a = c .before .before .before .before in
+    let q = a .before .args .t1 in
+    (omega arith, a .loop .inv .1 ∙ rw (next (q .slots) (q .len) (a .loop .i) (omega arith) (long (a .before)), sym (c .before .is-unexpired .ensures) ∙ not-false _ (c .if1 .left)))
+
+returns-2 : tie.Need-returns-2 Inv-loop μ-loop
+unfolding anyExpired
+returns-2 c =
+    let a = c .before in
+    let q = a .before .args .t1 in
+    sym (a .loop .inv .1 ∙ rw (done (q .slots) (q .len) (a .loop .i) (omega arith) (long (a .before))))
+
+pub has-expired-spec : {M : Type 1} → statement M
+has-expired-spec =
+    tie.close
+    (tie.spec
+    Inv-loop
+    μ-loop
+    loop-holds
+    mul-p
+    element-copy-out-p
+    is-unexpired-requires
+    returns
+    add-i
+    loop-less
+    loop-again
+    returns-2)
