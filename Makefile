@@ -1,37 +1,69 @@
 # Presscurlew: what can be run. Everything that is made lies below target/.
 
-ARCHIVE := target/staticlib/libcstack.a
-PROVED := crates.txt $(shell find crates/rules crates/cstack -name '*.rt' -o -name '*.antt')
-C_FLAGS := -std=c11 -Wall -Wextra -Werror -pedantic -Iinclude
+ARCHIVES := target/staticlib/libcstack.a target/staticlib/libhost.a target/staticlib/libloops.a
+PROVED := crates.txt $(shell find crates -name '*.rt' -o -name '*.antt')
 
 help:
-	@echo 'make demo    see the proved rules at work, called from C'
+	@echo 'make demo    a trailer in a jam: the gate at work, the verdict, and a picture'
 	@echo 'make test    the merge gate: proofs, archives, Rust tests, C examples'
 	@echo 'make bench   the calls beside the same calls in plain Rust'
 
-demo: target/demo/rules
+# The program that answers: the proved one, or without the Rattle kit the second one, which gives the same output.
+REPLAY := $(shell command -v rt >/dev/null && grep -qs '^replay:' crates.txt && echo target/bin/replay || echo target/rust/release/reference-replay)
+CARGO_BUILD := cargo build --quiet --release --offline --manifest-path rust/Cargo.toml --target-dir target/rust
+CURLEW := target/rust/release/curlew
+JAM := examples/logs/jam
+
+demo: demo-build
+	@mkdir -p target/demo
+	@$(REPLAY) <$(JAM).log >target/demo/jam.out
 	@echo
-	@./target/demo/rules
+	@echo 'A jam. A roadworks trailer wants to warn drivers, but its radio channel is 90 to 100 % busy, and stays so.'
+	@echo 'Polite radios back off. Presscurlew does too, and still promises two things, however loud the neighbours are:'
+	@echo '  ceiling   it is on air for at most 34 ms in any second: 3 %, and one longest packet of 4 ms'
+	@echo '  floor     it never falls silent: if a packet waits, the first poll a second after the last one sends it'
 	@echo
-	@echo 'Shown: the gate'\''s rules on plain numbers, called from examples/c/rules.c. Each answer above comes from'
-	@echo 'code that is proved equal to its definition for every input, and that was proved before it was compiled.'
-	@echo '  Profile 1: the level follows the channel load one step a sample, and sets the wait between packets.'
-	@echo '  Profile 3: the duty follows the smoothed load, and the wait is on-time over duty, rounded up and held'
-	@echo '             within 25,000 to 1,000,000 us.'
-	@echo '  Refusals:  numbers out of range are refused by number, and the other numbers are then 0.'
+	@echo 'Below, each call that the trailer made and the answer of $(REPLAY).'
+	@echo 'Warnings have priority 0. Left out: samples, and polls that found the gate closed.'
+	@echo
+	@$(CURLEW) show --brief --first 24 $(JAM).log target/demo/jam.out
+	@echo
+	@echo 'Warning 101 came at 2.001 s and went at 2.050 s: 1.02 s after the packet before it. From there on a warning'
+	@echo 'goes each second, as one comes each second. What is less urgent has to wait, or expires.'
+	@echo
+	@echo 'Was all of it right? A book of the run, kept from calls and answers alone, says:'
+	@echo
+	@$(CURLEW) check $(JAM).log target/demo/jam.out
+	@$(CURLEW) plot --title 'A jam: the channel is loud throughout' $(JAM).log target/demo/jam.out -o target/demo/jam.svg
+	@echo
+	@echo 'See it:      target/demo/jam.svg, in any browser'
+	@echo 'Guarantees:  docs/LABEL.md, each number with the theorem that proves it'
+	@echo 'Your own:    examples/logs/README.md says how to write a log and play it'
+
+demo-build:
+	@echo 'Building the tool curlew and $(REPLAY) ..'
+	@$(CARGO_BUILD) --package curlew --package reference
+ifeq ($(REPLAY),target/bin/replay)
+	@echo 'The program is proved before it is compiled: some minutes the first time (in full: target/demo/proof.log).'
+	@mkdir -p target/demo
+	@{ rt check replay 2>&1; echo $$? >target/demo/status; } | tee target/demo/proof.log | grep --line-buffered '^rt:'; \
+	[ "$$(cat target/demo/status)" = 0 ] || { tail -n 40 target/demo/proof.log; exit 1; }
+else
+	@echo 'The proved program needs the Rattle kit (rt). Without it, the second program answers in its place.'
+endif
 
 test:
 	@bash .ci/run
 
-bench: $(ARCHIVE)
-	@cargo run --quiet --release --offline --manifest-path rust/Cargo.toml --target-dir target/rust --package bench
+CARGO_RUN := cargo run --quiet --release --offline --manifest-path rust/Cargo.toml --target-dir target/rust
 
-# rt proves the crate before it writes the archive.
-$(ARCHIVE): $(PROVED)
-	rt staticlib cstack
+bench: $(ARCHIVES)
+	@$(CARGO_RUN) --package bench --bin bench
+	@echo
+	@$(CARGO_RUN) --package bench --bin gate
 
-target/demo/rules: examples/c/rules.c include/presscurlew.h $(ARCHIVE)
-	@mkdir -p $(@D)
-	gcc $(C_FLAGS) $< $(ARCHIVE) -o $@
+# rt proves a crate before it writes its archive.
+target/staticlib/lib%.a: $(PROVED)
+	rt staticlib $*
 
-.PHONY: help demo test bench
+.PHONY: help demo demo-build test bench

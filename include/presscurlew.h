@@ -1,29 +1,35 @@
 /*
- * Presscurlew: a transmit gate for a shared 5.9 GHz radio channel.
+ * Presscurlew: a transmit gate for a shared 5.9 GHz radio channel, for radio stacks in C and C++.
  *
- * These calls are the gate's rules on plain numbers, for a radio stack in C or C++. Each is proved to
- * answer what its comment says, for any numbers at all: nothing is undefined and nothing aborts.
+ * Two groups of calls:
+ *   the gate    make, sample, offer and poll on a state that the host keeps               link libhost.a
+ *   the rules   the gate's rules on plain numbers, for a stack that has a gate of its own  link libcstack.a
+ * Both archives stand in target/staticlib (x86-64, System V calling convention).
  *
- * They are pure functions: they keep no state, read and write no memory of the caller's, allocate
+ * Each call is proved to answer what its comment says, for any numbers and any state at all: nothing is
+ * undefined and nothing aborts. All are pure functions: what they need comes in by value (but for the words
+ * of a sample, which are only read) and what they give goes out by value. They keep nothing, allocate
  * nothing and take no lock. Any number of threads, and interrupt handlers, may call them at once.
  *
  * Units
+ *   time      microseconds (us)
+ *   stamp     the radio's own 32-bit count of microseconds, which starts anywhere and wraps
  *   load      channel busy ratio, parts per 1,000,000         0 to 1,000,000
  *   duty      share of time on air, parts per 1,000,000,000   600,000 to 30,000,000
  *   level     0 Relaxed, 1 Active 1, 2 Active 2, 3 Active 3, 4 Restrictive
  *   on-time   time on air of one packet, microseconds         1 to the longest that the profile allows
- *   wait      microseconds
+ *   lifetime  how long a packet may wait, microseconds        1 to 60,000,000
+ *   priority  0 (highest) to 3
  *
  * Profiles (ETSI TS 102 687 V1.2.1)       on-time allowed
  *   1   reactive, Table A.1               1 to 1,000
  *   2   reactive, Table A.2               1 to   500
  *   3   adaptive, clause 5.4              1 to 4,000
- *
- * Link with target/staticlib/libcstack.a (x86-64, System V calling convention).
  */
 #ifndef PRESSCURLEW_H
 #define PRESSCURLEW_H
 
+#include <stddef.h>
 #include <stdint.h>
 
 #ifdef __cplusplus
@@ -31,15 +37,192 @@ extern "C" {
 #endif
 
 /*
- * The refusal numbers of the calls below. Every answer's first field has one. They are tested in the
- * order 1, 9, 4, 6, as they apply, and the first that holds is the answer. With a refusal, the answer's
- * other fields are 0.
+ * The refusal numbers of the gate. A call tests 9, 2 and 3, then 4, or 5 to 8, as they apply; the first
+ * that holds is the answer. A refused call changes nothing: it hands back the state that it was given,
+ * clock included.
+ */
+enum presscurlew_refusal {
+    PRESSCURLEW_BAD_PROFILE = 1,  /* make: the profile is not 1 to 3 */
+    PRESSCURLEW_CLOCK_BACK = 2,   /* from the last stamp to this one, modulo 2^32, are 2,147,483,648 us or more */
+    PRESSCURLEW_CLOCK_END = 3,    /* the running time would pass 10^15 us, some 31 years */
+    PRESSCURLEW_BAD_SAMPLE = 4,   /* not 16 words, or a bit above bit 39 set in the last, or a busy count above 1,000 */
+    PRESSCURLEW_BAD_PRIORITY = 5, /* the priority is above 3 */
+    PRESSCURLEW_BAD_ON_TIME = 6,  /* the profile does not allow this on-time */
+    PRESSCURLEW_BAD_LIFETIME = 7, /* the lifetime is 0 or above 60,000,000 */
+    PRESSCURLEW_QUEUE_FULL = 8,   /* 5 unexpired packets of this priority wait */
+    PRESSCURLEW_NO_STATE = 9      /* the state is not sound: make refused it, or it was changed */
+};
+
+/*
+ * The gate
+ * ========
+ *
+ * The host keeps a presscurlew_state for each channel. Each call takes the state by value and hands back
+ * the next one, with an answer:
+ *
+ *   presscurlew_turn turn = presscurlew_make(1, radio_clock());
+ *   presscurlew_state state = turn.state;
+ *   ...
+ *   turn = presscurlew_offer(state, id, priority, ontime, lifetime, radio_clock());
+ *   state = turn.state;
+ *   if (turn.reply.kind == PRESSCURLEW_REFUSED)
+ *       report(turn.reply.number);
+ *   ...
+ *   turn = presscurlew_poll(state, radio_clock());
+ *   state = turn.state;
+ *   if (turn.reply.kind == PRESSCURLEW_SENT)
+ *       transmit(turn.reply.packet.id);
+ *
+ * What the host does:
+ *   - It keeps the state of the last call and hands it back unchanged. It may store it, copy it and move it
+ *     to another thread, but it uses each state for one call: two calls on copies of one state are two
+ *     gates, and each admits for itself.
+ *   - It sends a packet when, and only when, a poll answers SENT, and each one once.
+ *   - It reads stamps from one clock, and calls often enough that the clock moves by less than 2^31 us
+ *     (some 35 minutes) from one call to the next; a longer step looks like a clock that went back. A step of
+ *     0 is good.
+ *   - It polls when it offers, and when the us that CLOSED named have passed; samples may change that
+ *     time. A packet's place is free again after the first offer or poll that finds it expired.
+ *   - It samples the channel as its standard says; whether 100 ms passed between samples is not judged.
+ *
+ * Any state at all is answered. One that no call handed out is refused with NO_STATE unless it is sound:
+ * live is 1, every field lies within the limits that are named at it, and everything unused is zero. Padding
+ * bytes are not looked at.
+ */
+
+/* A packet that waits. An unused slot is all zero. */
+typedef struct presscurlew_packet {
+    uint32_t id;       /* the host's own name for it: any number, repeats allowed */
+    uint32_t priority; /* 0 to 3; it waits in the queue of this number */
+    uint32_t ontime;   /* 1 to the longest that the profile allows */
+    uint32_t lifetime; /* 1 to 60,000,000; it is expired once it has waited so long */
+    uint64_t arrival;  /* the running time at which it was offered; at most the running time */
+} presscurlew_packet;
+
+/* The packets of one priority. */
+typedef struct presscurlew_queue {
+    uint64_t len;                /* how many wait, 0 to 5; the archive's lengths have 64 bits, as size_t on x86-64 */
+    presscurlew_packet slots[5]; /* the first len wait, the oldest first; the others are all zero */
+} presscurlew_queue;
+
+/* The running time, and the stamp that it was reached with. */
+typedef struct presscurlew_clock {
+    uint64_t time;  /* since make; at most 10^15 */
+    uint32_t stamp; /* of the last call that was not refused: any number */
+} presscurlew_clock;
+
+/* What samples steer. */
+typedef struct presscurlew_control {
+    uint32_t profile;  /* 1 to 3 */
+    uint32_t level;    /* 0 to 4; profiles 1 and 2 move it */
+    uint32_t duty;     /* 600,000 to 30,000,000; profile 3 moves it */
+    uint32_t smoothed; /* the smoothed load, at most 1,000,000; profile 3 moves it */
+    uint32_t kept;     /* profile 3: the load of the first sample of a pair, at most 1,000,000; 0 if none is kept */
+    uint32_t pairing;  /* 1 while a sample is kept, else 0 */
+} presscurlew_control;
+
+/* The last admission. Before the first one all fields are 0. */
+typedef struct presscurlew_last {
+    uint64_t at;     /* the running time at which it was made; at most the running time */
+    uint32_t ontime; /* the on-time of its packet */
+    uint32_t any;    /* 1 once something was admitted, else 0 */
+} presscurlew_last;
+
+/* The state of one gate: 576 bytes. */
+typedef struct presscurlew_state {
+    presscurlew_queue queues[4]; /* by priority */
+    presscurlew_clock clock;
+    presscurlew_control control;
+    presscurlew_last last;
+    uint32_t live; /* 1; 0 in the all-zero state that a refused make hands back */
+} presscurlew_state;
+
+/* The kinds of answers. */
+enum presscurlew_kind {
+    PRESSCURLEW_READY = 0,  /* make: the state is fresh */
+    PRESSCURLEW_TAKEN = 1,  /* the sample or the packet was taken */
+    PRESSCURLEW_SENT = 2,   /* poll: `packet` has left its queue and goes on air now */
+    PRESSCURLEW_IDLE = 3,   /* poll: nothing waits */
+    PRESSCURLEW_CLOSED = 4, /* poll: the gate is closed for another `number` us */
+    PRESSCURLEW_REFUSED = 5 /* `number` is the refusal, an enum presscurlew_refusal */
+};
+
+/* The answer to a call. What its kind does not use is 0. */
+typedef struct presscurlew_reply {
+    presscurlew_packet packet; /* SENT: the whole packet */
+    uint64_t number;           /* CLOSED: the us left, 1 to 1,000,000; REFUSED: the refusal, 1 to 9 */
+    uint32_t kind;             /* an enum presscurlew_kind */
+} presscurlew_reply;
+
+/* What a call hands back. */
+typedef struct presscurlew_turn {
+    presscurlew_state state; /* to keep, and to hand to the next call */
+    presscurlew_reply reply;
+} presscurlew_turn;
+
+/*
+ * A fresh state: running time 0, level 0, duty 600,000, smoothed load 0, nothing kept, nothing admitted,
+ * nothing waiting. `stamp` is the radio's clock now. READY.
+ *
+ * Refusals: BAD_PROFILE, with the all-zero state, which every other call refuses with NO_STATE.
+ */
+presscurlew_turn presscurlew_make(uint32_t profile, uint32_t stamp);
+
+/*
+ * A sample of the channel: 1,000 probes in 16 words. Probe k is bit k mod 64 of word k / 64, and is 1 where
+ * the channel was busy; the bits above bit 39 of the last word are 0. TAKEN. `words` points to `count` words,
+ * which are only read; with count 0 it may be NULL.
+ *
+ * Load is 1,000 for each busy probe. Profiles 1 and 2 move the level by at most one towards the one that the
+ * load wants. Profile 3 keeps each odd sample, and with each even one updates smoothed load and duty. A
+ * sample expires nothing.
+ *
+ *   uint64_t words[16] = {0};
+ *   for (unsigned k = 0; k < 1000; k++)
+ *       if (channel_was_busy(k))
+ *           words[k / 64] |= UINT64_C(1) << k % 64;
+ *   turn = presscurlew_sample_words(state, words, 16, radio_clock());
+ *
+ * Refusals: NO_STATE, CLOCK_BACK, CLOCK_END, BAD_SAMPLE.
+ */
+presscurlew_turn presscurlew_sample_words(presscurlew_state state, const uint64_t *words, size_t count, uint32_t stamp);
+
+/* The same, where the radio has counted the busy probes: `busy` of 1,000. */
+presscurlew_turn presscurlew_sample_count(presscurlew_state state, uint32_t busy, uint32_t stamp);
+
+/*
+ * A packet to send. The clock moves, every expired packet of all queues is removed, and the packet joins the
+ * back of its priority's queue. TAKEN.
+ *
+ *   turn = presscurlew_offer(state, 7, 1, 400, 100000, radio_clock());   a packet of 400 us, good for 100 ms
+ *
+ * Refusals: NO_STATE, CLOCK_BACK, CLOCK_END, BAD_PRIORITY, BAD_ON_TIME, BAD_LIFETIME, QUEUE_FULL.
+ */
+presscurlew_turn presscurlew_offer(presscurlew_state state, uint32_t id, uint32_t priority, uint32_t ontime,
+                                   uint32_t lifetime, uint32_t stamp);
+
+/*
+ * Whether a packet may go, and which. The clock moves, and every expired packet of all queues is removed.
+ * Then: IDLE if nothing waits; else CLOSED if less than the wait has passed since the last admission; else
+ * SENT, with the oldest packet of the lowest-numbered queue that has one. presscurlew_wait, below, says
+ * what the wait is; it is taken afresh at each poll, with the level or duty of that moment.
+ *
+ * Refusals: NO_STATE, CLOCK_BACK, CLOCK_END.
+ */
+presscurlew_turn presscurlew_poll(presscurlew_state state, uint32_t stamp);
+
+/*
+ * The rules
+ * =========
+ *
+ * The refusal numbers of the rules. Every answer's first field has one: 0, PRESSCURLEW_BAD_PROFILE,
+ * PRESSCURLEW_BAD_ON_TIME or one of these. 4 and 9 mean something else here than in the gate. They are tested
+ * in the order 1, 9, 4, 6, as they apply, and the first that holds is the answer. With a refusal, the
+ * answer's other fields are 0.
  */
 enum presscurlew_rule_refusal {
     PRESSCURLEW_ACCEPTED = 0,    /* no refusal: the other fields are the answer */
-    PRESSCURLEW_BAD_PROFILE = 1, /* the call does not take this profile */
     PRESSCURLEW_BAD_LOAD = 4,    /* a load is above 1,000,000 */
-    PRESSCURLEW_BAD_ON_TIME = 6, /* the profile does not allow this on-time */
     PRESSCURLEW_OUT_OF_RANGE = 9 /* the level is above 4, or the duty is not 600,000 to 30,000,000 */
 };
 

@@ -1,4 +1,4 @@
-//! Links the proved archive, which `rt staticlib cstack` writes below the repository's root.
+//! Links the proved archives, which `rt staticlib` writes below the repository's root.
 
 use std::env;
 use std::path::PathBuf;
@@ -6,11 +6,13 @@ use std::path::PathBuf;
 fn main() {
     let package = env::var_os("CARGO_MANIFEST_DIR").expect("cargo names the package's folder");
     let folder = PathBuf::from(package).join("../../target/staticlib");
-    let archive = folder.join("libcstack.a");
-    println!("cargo:rerun-if-changed={}", archive.display());
-    if !archive.exists() {
-        println!("cargo:warning=target/staticlib/libcstack.a is missing: run `rt staticlib cstack` first");
-    }
     println!("cargo:rustc-link-search=native={}", folder.display());
-    println!("cargo:rustc-link-lib=static=cstack");
+    for name in ["cstack", "host"] {
+        let archive = folder.join(format!("lib{name}.a"));
+        println!("cargo:rerun-if-changed={}", archive.display());
+        if !archive.exists() {
+            println!("cargo:warning=lib{name}.a is missing: run `rt staticlib {name}` first");
+        }
+        println!("cargo:rustc-link-lib=static={name}");
+    }
 }

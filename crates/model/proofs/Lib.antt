@@ -15,4 +15,9 @@ pub mod Invariant
 pub mod KeepsSound
 pub mod Runs
 pub mod Demand3
+pub mod DeliveryLines
+pub mod DeliveryPast
+pub mod DeliverySteps
+pub mod Delivery
 pub mod SampleLog
+pub mod DeliveryExample

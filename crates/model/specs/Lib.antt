@@ -9,3 +9,4 @@ pub mod Refusals
 pub mod Gate
 pub mod Journal
 pub mod Claims
+pub mod Delivery

@@ -3,13 +3,17 @@
 //! This package is safe Rust over the archives that the Rattle crates are compiled to. What the proofs
 //! say, and what they assume, stands in the repository's README.
 //!
+//! - [`Gate`]: the gate of one channel: samples, offers and polls
 //! - [`rules`]: the gate's rules on plain numbers
-//! - [`sys`]: the archive's calls as C sees them
+//! - [`sys`]: the archives' calls as C sees them
 //!
 //! Times are whole microseconds (µs), duty is in parts per 1,000,000,000 and load in parts per 1,000,000.
 
 #![deny(missing_docs)]
 #![deny(unsafe_code)]
 
+pub mod gate;
 pub mod rules;
 pub mod sys;
+
+pub use gate::{Answer, Gate, Offer, Packet, Refusal};

@@ -1,6 +1,26 @@
-//! The archive's calls as C sees them; `include/presscurlew.h` declares the same.
+//! The archives' calls as C sees them; `include/presscurlew.h` declares the same, and says more.
 //!
-//! Each answer has its refusal number first, 0 for none. A refusal's other numbers are 0.
+//! The gate's calls take a [`State`] by value and hand back the next one in a [`Turn`]. They are for hosts
+//! that store states themselves, and for tests; [`crate::Gate`] keeps its state safe. The state of each call
+//! goes into the next one, unchanged and once: two calls on copies of one state are two gates.
+//!
+//! The rules' answers have their refusal number first, 0 for none. A refusal's other numbers are 0.
+//!
+//! ```
+//! use presscurlew::sys;
+//!
+//! let made = sys::presscurlew_make(2, 0);
+//! let offered = sys::presscurlew_offer(made.state, 7, 1, 400, 60_000, 100);
+//! let polled = sys::presscurlew_poll(offered.state, 200);
+//! assert_eq!((polled.reply.kind, polled.reply.packet.id), (sys::SENT, 7));
+//!
+//! // A state that was changed is refused with 9, and comes back as it was.
+//! let mut bent = polled.state;
+//! bent.queues[0].len = 6;
+//! let refused = sys::presscurlew_poll(bent, 300);
+//! assert_eq!((refused.reply.kind, refused.reply.number), (sys::REFUSED, 9));
+//! assert_eq!(refused.state, bent);
+//! ```
 
 /// What the wanted level and the level step answer.
 #[repr(C)]
@@ -53,4 +73,179 @@ unsafe extern "C" {
 
     /// The wait after an admission of this on-time.
     pub safe fn presscurlew_wait(profile: u32, level: u32, duty: u32, ontime: u32) -> WaitAnswer;
+}
+
+/// A packet that waits. An unused slot is all zero.
+#[repr(C)]
+#[derive(Clone, Copy, Debug, Default, PartialEq, Eq, Hash)]
+pub struct Packet {
+    /// The host's own name for it: any number, repeats allowed.
+    pub id: u32,
+    /// The priority, 0 (highest) to 3.
+    pub priority: u32,
+    /// The on-time in µs.
+    pub ontime: u32,
+    /// The lifetime in µs.
+    pub lifetime: u32,
+    /// The running time at which it was offered.
+    pub arrival: u64,
+}
+
+/// The packets of one priority.
+#[repr(C)]
+#[derive(Clone, Copy, Debug, Default, PartialEq, Eq, Hash)]
+pub struct Queue {
+    /// How many wait, 0 to 5; the archive's lengths have 64 bits.
+    pub len: u64,
+    /// The first `len` wait, the oldest first; the others are all zero.
+    pub slots: [Packet; 5],
+}
+
+/// The running time, and the stamp that it was reached with.
+#[repr(C)]
+#[derive(Clone, Copy, Debug, Default, PartialEq, Eq, Hash)]
+pub struct Clock {
+    /// The running time in µs.
+    pub time: u64,
+    /// The stamp of the last call that was not refused.
+    pub stamp: u32,
+}
+
+/// What samples steer.
+#[repr(C)]
+#[derive(Clone, Copy, Debug, Default, PartialEq, Eq, Hash)]
+pub struct Control {
+    /// The profile, 1 to 3.
+    pub profile: u32,
+    /// The level, 0 to 4.
+    pub level: u32,
+    /// The duty, in parts per 1,000,000,000.
+    pub duty: u32,
+    /// The smoothed load, in parts per 1,000,000.
+    pub smoothed: u32,
+    /// The load of the sample that is kept, 0 if none is.
+    pub kept: u32,
+    /// 1 while a sample is kept, else 0.
+    pub pairing: u32,
+}
+
+/// The last admission. Before the first one all fields are 0.
+#[repr(C)]
+#[derive(Clone, Copy, Debug, Default, PartialEq, Eq, Hash)]
+pub struct Last {
+    /// The running time at which it was made.
+    pub at: u64,
+    /// The on-time of its packet.
+    pub ontime: u32,
+    /// 1 once something was admitted, else 0.
+    pub any: u32,
+}
+
+/// The state of one gate. Any values at all may stand in it: the calls refuse a state that is not sound.
+#[repr(C)]
+#[derive(Clone, Copy, Debug, Default, PartialEq, Eq, Hash)]
+pub struct State {
+    /// The queues, by priority.
+    pub queues: [Queue; 4],
+    /// The clock.
+    pub clock: Clock,
+    /// What samples steer.
+    pub control: Control,
+    /// The last admission.
+    pub last: Last,
+    /// 1; 0 in the all-zero state that a refused make hands back.
+    pub live: u32,
+}
+
+/// The kind of the answer READY: the state is fresh.
+pub const READY: u32 = 0;
+/// The kind of the answer TAKEN: the sample or the packet was taken.
+pub const TAKEN: u32 = 1;
+/// The kind of the answer SENT: the packet goes on air now.
+pub const SENT: u32 = 2;
+/// The kind of the answer IDLE: nothing waits.
+pub const IDLE: u32 = 3;
+/// The kind of the answer CLOSED: the gate is closed for so many µs.
+pub const CLOSED: u32 = 4;
+/// The kind of the answer REFUSED: the call changed nothing.
+pub const REFUSED: u32 = 5;
+
+/// The answer to a call. What its kind does not use is 0.
+#[repr(C)]
+#[derive(Clone, Copy, Debug, Default, PartialEq, Eq, Hash)]
+pub struct Reply {
+    /// SENT: the packet.
+    pub packet: Packet,
+    /// CLOSED: the µs left; REFUSED: the number of the refusal.
+    pub number: u64,
+    /// The kind of the answer.
+    pub kind: u32,
+}
+
+/// What a call hands back.
+#[repr(C)]
+#[derive(Clone, Copy, Debug, Default, PartialEq, Eq, Hash)]
+pub struct Turn {
+    /// The next state.
+    pub state: State,
+    /// The answer.
+    pub reply: Reply,
+}
+
+// Safe to call, but for the one that takes a pointer: any numbers and any state at all are answered.
+#[allow(unsafe_code)]
+unsafe extern "C" {
+    /// A fresh state.
+    pub safe fn presscurlew_make(profile: u32, stamp: u32) -> Turn;
+
+    /// A sample by words; [`sample_words`] is the same of a slice.
+    ///
+    /// # Safety
+    ///
+    /// `words` points to `count` words that can be read; with `count` 0 it may be null.
+    pub fn presscurlew_sample_words(
+        state: State,
+        words: *const u64,
+        count: usize,
+        stamp: u32,
+    ) -> Turn;
+
+    /// A sample by its busy count.
+    pub safe fn presscurlew_sample_count(state: State, busy: u32, stamp: u32) -> Turn;
+
+    /// A packet to send.
+    pub safe fn presscurlew_offer(
+        state: State,
+        id: u32,
+        priority: u32,
+        ontime: u32,
+        lifetime: u32,
+        stamp: u32,
+    ) -> Turn;
+
+    /// Whether a packet may go, and which.
+    pub safe fn presscurlew_poll(state: State, stamp: u32) -> Turn;
+}
+
+/// A sample by words, of a slice.
+#[allow(unsafe_code)]
+pub fn sample_words(state: State, words: &[u64], stamp: u32) -> Turn {
+    // SAFETY: the slice has `words.len()` words, and the archive only reads them.
+    unsafe { presscurlew_sample_words(state, words.as_ptr(), words.len(), stamp) }
+}
+
+#[cfg(test)]
+#[allow(unsafe_code)]
+mod tests {
+    use super::*;
+    use std::ptr;
+
+    #[test]
+    fn no_words_may_be_a_null_pointer() {
+        let fresh = presscurlew_make(1, 0).state;
+        // SAFETY: with a count of 0 nothing is read.
+        let turn = unsafe { presscurlew_sample_words(fresh, ptr::null(), 0, 0) };
+        assert_eq!((turn.reply.kind, turn.reply.number), (REFUSED, 4));
+        assert_eq!(turn.state, fresh);
+    }
 }

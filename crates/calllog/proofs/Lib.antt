@@ -1,0 +1,7 @@
+-- Texts in buffers, decimal digits, a log in pieces, and document 01's sample.
+pub mod Buffers
+pub mod Decimal
+pub mod Lengths
+pub mod Asking
+pub mod Pieces
+pub mod SampleLog

@@ -1,0 +1,58 @@
+/*
+ * Sizes and offsets of the gate's structs as C sees them. A test of the Rust package holds its own to the
+ * same file, so that a host in C, a host in Rust and the archive agree on every byte.
+ */
+#include <stdio.h>
+
+#include "presscurlew.h"
+
+#define SIZE(name) printf(#name " %zu bytes\n", sizeof(presscurlew_##name))
+#define FIELD(name, field) printf("  %-8s at %3zu\n", #field, offsetof(presscurlew_##name, field))
+
+static void parts(void) {
+    SIZE(packet);
+    FIELD(packet, id);
+    FIELD(packet, priority);
+    FIELD(packet, ontime);
+    FIELD(packet, lifetime);
+    FIELD(packet, arrival);
+    SIZE(queue);
+    FIELD(queue, len);
+    FIELD(queue, slots);
+    SIZE(clock);
+    FIELD(clock, time);
+    FIELD(clock, stamp);
+    SIZE(control);
+    FIELD(control, profile);
+    FIELD(control, level);
+    FIELD(control, duty);
+    FIELD(control, smoothed);
+    FIELD(control, kept);
+    FIELD(control, pairing);
+    SIZE(last);
+    FIELD(last, at);
+    FIELD(last, ontime);
+    FIELD(last, any);
+}
+
+static void wholes(void) {
+    SIZE(state);
+    FIELD(state, queues);
+    FIELD(state, clock);
+    FIELD(state, control);
+    FIELD(state, last);
+    FIELD(state, live);
+    SIZE(reply);
+    FIELD(reply, packet);
+    FIELD(reply, number);
+    FIELD(reply, kind);
+    SIZE(turn);
+    FIELD(turn, state);
+    FIELD(turn, reply);
+}
+
+int main(void) {
+    parts();
+    wholes();
+    return 0;
+}

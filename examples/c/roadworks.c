@@ -1,0 +1,149 @@
+/*
+ * A host of the gate to start from: a trailer at roadworks that warns of the closed lane, tells its status and
+ * sends the map of the site in pieces, over 3 s in which the channel gets crowded for a while.
+ *
+ * The radio is played: its clock is `now`, which wraps on the way, and hear_channel makes up what it probes.
+ * All else is what a host does: keep the state, sample, offer, poll, and wait as long as CLOSED says.
+ */
+#include <inttypes.h>
+#include <stdio.h>
+#include <string.h>
+
+#include "presscurlew.h"
+
+static const uint32_t START = 4294000000, TICK_US = 10000, TICKS = 300;
+
+/* What the host sends. */
+typedef struct message {
+    const char *name;
+    uint32_t priority;
+    uint32_t ontime;
+    uint32_t lifetime;
+} message;
+
+static const message messages[] = {
+    {"warning", 0, 600, 1000000},
+    {"status", 2, 300, 400000},
+    {"map", 3, 900, 3000000},
+};
+
+enum { WARNING, STATUS, MAP };
+
+typedef struct host {
+    presscurlew_state state; /* handed to each call, and replaced by what the call hands back */
+    uint32_t now;            /* the radio's clock */
+    uint32_t quiet_until;    /* no use to poll before: the gate said CLOSED */
+    uint32_t offered, sent, refused, air_time;
+} host;
+
+static uint32_t since_start_ms(const host *h) { return (h->now - START) / 1000; }
+
+static const char *refusal_name(uint64_t number) {
+    static const char *const names[] = {"",           "BAD-PROFILE", "CLOCK-BACK",   "CLOCK-END",  "BAD-SAMPLE",
+                                        "BAD-PRIORITY", "BAD-ON-TIME", "BAD-LIFETIME", "QUEUE-FULL", "NO-STATE"};
+    return number < sizeof names / sizeof names[0] ? names[number] : "?";
+}
+
+/* 1,000 probes of the channel, of which so many are busy. */
+static void hear_channel(uint64_t words[16], unsigned busy) {
+    memset(words, 0, 16 * sizeof words[0]);
+    for (unsigned k = 0; k < 1000; k++)
+        if (k * 7919 % 1000 < busy)
+            words[k / 64] |= UINT64_C(1) << k % 64;
+}
+
+static void sample(host *h, unsigned busy) {
+    uint32_t level = h->state.control.level;
+    uint64_t words[16];
+
+    hear_channel(words, busy);
+    presscurlew_turn turn = presscurlew_sample_words(h->state, words, 16, h->now);
+    h->state = turn.state;
+    /* The wait may be another one now, so the next poll is not put off any longer. */
+    h->quiet_until = h->now;
+    if (h->state.control.level != level)
+        printf("%5" PRIu32 " ms  level %" PRIu32 "\n", since_start_ms(h), h->state.control.level);
+}
+
+static void offer(host *h, int kind) {
+    const message *m = &messages[kind];
+    /* The host finds the message by the identifier when it is sent: the kind stands in its last two bits. */
+    uint32_t id = h->offered++ << 2 | (uint32_t)kind;
+    presscurlew_turn turn = presscurlew_offer(h->state, id, m->priority, m->ontime, m->lifetime, h->now);
+
+    h->state = turn.state;
+    if (turn.reply.kind == PRESSCURLEW_REFUSED) {
+        h->refused++;
+        printf("%5" PRIu32 " ms  %s %" PRIu32 " refused: %s\n", since_start_ms(h), m->name, id >> 2,
+               refusal_name(turn.reply.number));
+    }
+}
+
+/* Puts a packet on air. */
+static void transmit(host *h, const presscurlew_packet *packet) {
+    uint64_t waited = h->state.clock.time - packet->arrival;
+
+    h->sent++;
+    h->air_time += packet->ontime;
+    printf("%5" PRIu32 " ms  %s %" PRIu32 " sent, it waited %" PRIu64 " ms\n", since_start_ms(h),
+           messages[packet->id & 3].name, packet->id >> 2, waited / 1000);
+}
+
+static void poll(host *h) {
+    presscurlew_turn turn = presscurlew_poll(h->state, h->now);
+
+    h->state = turn.state;
+    switch (turn.reply.kind) {
+    case PRESSCURLEW_SENT:
+        transmit(h, &turn.reply.packet);
+        break;
+    case PRESSCURLEW_CLOSED:
+        h->quiet_until = h->now + (uint32_t)turn.reply.number;
+        break;
+    case PRESSCURLEW_IDLE:
+        break;
+    default:
+        printf("%5" PRIu32 " ms  poll refused: %s\n", since_start_ms(h), refusal_name(turn.reply.number));
+    }
+}
+
+/* Whether `moment` has come; on a clock that wraps, only differences tell. */
+static int has_come(const host *h, uint32_t moment) { return h->now - moment < UINT32_C(0x80000000); }
+
+static void tick(host *h, unsigned t) {
+    if (t % 10 == 0)
+        sample(h, t < 50 ? 200 : t < 150 ? 700 : 100);
+    if (t % 50 == 2)
+        offer(h, WARNING);
+    if (t % 20 == 1)
+        offer(h, STATUS);
+    if (t == 55)
+        for (int piece = 0; piece < 6; piece++)
+            offer(h, MAP);
+    if (has_come(h, h->quiet_until))
+        poll(h);
+    h->now += TICK_US;
+}
+
+static uint32_t waiting(const presscurlew_state *state) {
+    uint64_t sum = 0;
+
+    for (int priority = 0; priority < 4; priority++)
+        sum += state->queues[priority].len;
+    return (uint32_t)sum;
+}
+
+int main(void) {
+    presscurlew_turn made = presscurlew_make(1, START);
+    host h = {.state = made.state, .now = START, .quiet_until = START};
+
+    if (made.reply.kind != PRESSCURLEW_READY)
+        return 1;
+    for (unsigned t = 0; t < TICKS; t++)
+        tick(&h, t);
+    uint32_t left = waiting(&h.state);
+    printf("%" PRIu32 " offered, %" PRIu32 " refused, %" PRIu32 " sent, %" PRIu32 " waiting, %" PRIu32 " expired; %" PRIu32
+           " us on air\n",
+           h.offered, h.refused, h.sent, left, h.offered - h.refused - h.sent - left, h.air_time);
+    return 0;
+}

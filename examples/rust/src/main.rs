@@ -1,0 +1,199 @@
+//! A host of the gate to start from: a trailer at roadworks that warns of the closed lane, tells its status and
+//! sends the map of the site in pieces, over 3 s in which the channel gets crowded for a while.
+//!
+//! `examples/c/roadworks.c` is the same host in C, and both must write the same.
+//!
+//! The radio is played: its clock is `now`, which wraps on the way, and `hear_channel` makes up what it probes.
+//! All else is what a host does: sample, offer, poll, and wait as long as `Closed` says.
+
+use presscurlew::{Answer, Gate, Offer, Packet, Refusal};
+
+const START: u32 = 4_294_000_000;
+const TICK_US: u32 = 10_000;
+const TICKS: u32 = 300;
+
+/// What the host sends.
+#[derive(Clone, Copy)]
+struct Message {
+    name: &'static str,
+    priority: u32,
+    ontime: u32,
+    lifetime: u32,
+}
+
+const WARNING: usize = 0;
+const STATUS: usize = 1;
+const MAP: usize = 2;
+
+const MESSAGES: [Message; 3] = [
+    Message {
+        name: "warning",
+        priority: 0,
+        ontime: 600,
+        lifetime: 1_000_000,
+    },
+    Message {
+        name: "status",
+        priority: 2,
+        ontime: 300,
+        lifetime: 400_000,
+    },
+    Message {
+        name: "map",
+        priority: 3,
+        ontime: 900,
+        lifetime: 3_000_000,
+    },
+];
+
+struct Host {
+    gate: Gate,
+    /// The radio's clock.
+    now: u32,
+    /// No use to poll before: the gate said CLOSED.
+    quiet_until: u32,
+    offered: u32,
+    sent: u32,
+    refused: u32,
+    air_time: u32,
+}
+
+/// 1,000 probes of the channel, of which so many are busy.
+fn hear_channel(busy: usize) -> [u64; 16] {
+    let mut words = [0; 16];
+    for k in 0..1_000 {
+        if k * 7_919 % 1_000 < busy {
+            words[k / 64] |= 1 << (k % 64);
+        }
+    }
+    words
+}
+
+impl Host {
+    fn new() -> Result<Host, Refusal> {
+        Ok(Host {
+            gate: Gate::new(1, START)?,
+            now: START,
+            quiet_until: START,
+            offered: 0,
+            sent: 0,
+            refused: 0,
+            air_time: 0,
+        })
+    }
+
+    /// Writes a line with the time.
+    fn tell(&self, what: &str) {
+        let since_start = self.now.wrapping_sub(START);
+        println!("{:5} ms  {what}", since_start / 1_000);
+    }
+
+    fn sample(&mut self, busy: usize) -> Result<(), Refusal> {
+        let level = self.gate.state().control.level;
+        self.gate.sample_words(&hear_channel(busy), self.now)?;
+        // The wait may be another one now, so the next poll is not put off any longer.
+        self.quiet_until = self.now;
+        let next = self.gate.state().control.level;
+        if next != level {
+            self.tell(&format!("level {next}"));
+        }
+        Ok(())
+    }
+
+    fn offer(&mut self, kind: usize) {
+        let Message {
+            name,
+            priority,
+            ontime,
+            lifetime,
+        } = MESSAGES[kind];
+        let number = self.offered;
+        let offer = Offer {
+            // The host finds the message by the identifier when it is sent: the kind stands in its last two bits.
+            id: number << 2 | kind as u32,
+            priority,
+            ontime,
+            lifetime,
+        };
+        self.offered += 1;
+        if let Err(refusal) = self.gate.offer(offer, self.now) {
+            self.refused += 1;
+            self.tell(&format!("{name} {number} refused: {}", refusal.name()));
+        }
+    }
+
+    /// Puts a packet on air.
+    fn transmit(&mut self, packet: Packet) {
+        self.sent += 1;
+        self.air_time += packet.ontime;
+        let waited = self.gate.state().clock.time - packet.arrival;
+        let name = MESSAGES[packet.id as usize & 3].name;
+        let number = packet.id >> 2;
+        self.tell(&format!(
+            "{name} {number} sent, it waited {} ms",
+            waited / 1_000
+        ));
+    }
+
+    fn poll(&mut self) -> Result<(), Refusal> {
+        match self.gate.poll(self.now)? {
+            Answer::Sent(packet) => self.transmit(packet),
+            // A wait is at most 1 s, so it fits.
+            Answer::Closed { micros } => self.quiet_until = self.now.wrapping_add(micros as u32),
+            Answer::Idle => {}
+        }
+        Ok(())
+    }
+
+    /// Whether a moment has come; on a clock that wraps, only differences tell.
+    fn has_come(&self, moment: u32) -> bool {
+        self.now.wrapping_sub(moment) < 1 << 31
+    }
+
+    fn tick(&mut self, t: u32) -> Result<(), Refusal> {
+        if t % 10 == 0 {
+            self.sample(match t {
+                0..50 => 200,
+                50..150 => 700,
+                _ => 100,
+            })?;
+        }
+        if t % 50 == 2 {
+            self.offer(WARNING);
+        }
+        if t % 20 == 1 {
+            self.offer(STATUS);
+        }
+        if t == 55 {
+            (0..6).for_each(|_| self.offer(MAP));
+        }
+        if self.has_come(self.quiet_until) {
+            self.poll()?;
+        }
+        self.now = self.now.wrapping_add(TICK_US);
+        Ok(())
+    }
+
+    fn sum_up(&self) {
+        let Host {
+            offered,
+            refused,
+            sent,
+            air_time,
+            ..
+        } = *self;
+        let queues = self.gate.state().queues.iter();
+        let waiting: u32 = queues.map(|queue| queue.len as u32).sum();
+        let expired = offered - refused - sent - waiting;
+        println!("{offered} offered, {refused} refused, {sent} sent, {waiting} waiting, {expired} expired; {air_time} us on air");
+    }
+}
+
+fn main() -> Result<(), Refusal> {
+    let mut host = Host::new()?;
+    for t in 0..TICKS {
+        host.tick(t)?;
+    }
+    host.sum_up();
+    Ok(())
+}

@@ -1,0 +1,322 @@
+//! The gate in ordinary Rust: (b) in place behind `&mut self`, with no soundness test; (a) by value, with the
+//! whole soundness test at every call. Written for speed as one would for oneself.
+
+/// A waiting packet, laid out as the archive's.
+#[derive(Clone, Copy, Default, PartialEq, Eq, Debug)]
+#[repr(C)]
+pub struct Packet {
+    pub id: u32,
+    pub priority: u32,
+    pub ontime: u32,
+    pub lifetime: u32,
+    pub arrival: u64,
+}
+
+#[derive(Clone, Copy, Default, PartialEq, Eq, Debug)]
+#[repr(C)]
+pub struct Queue {
+    pub len: usize,
+    pub slots: [Packet; 5],
+}
+
+/// A gate's state, laid out as the archive's.
+#[derive(Clone, Copy, Default, PartialEq, Eq, Debug)]
+#[repr(C)]
+pub struct State {
+    pub queues: [Queue; 4],
+    pub time: u64,
+    pub stamp: u32,
+    pub gap: u32,
+    pub profile: u32,
+    pub level: u32,
+    pub duty: u32,
+    pub smoothed: u32,
+    pub kept: u32,
+    pub pairing: u32,
+    pub at: u64,
+    pub ontime: u32,
+    pub any: u32,
+    pub live: u32,
+}
+
+#[derive(Clone, Copy)]
+pub enum Answer {
+    Taken,
+    Sent(#[allow(dead_code)] Packet),
+    Idle,
+    Closed(#[allow(dead_code)] u64),
+    Refused(#[allow(dead_code)] u32),
+}
+
+const END: u64 = 1_000_000_000_000_000;
+
+fn most_ontime(profile: u32) -> u32 {
+    match profile {
+        1 => 1000,
+        2 => 500,
+        _ => 4000,
+    }
+}
+
+impl Packet {
+    fn is_zero(&self) -> bool {
+        *self == Packet::default()
+    }
+
+    fn is_live(&self, now: u64) -> bool {
+        now - self.arrival < self.lifetime as u64
+    }
+}
+
+impl Queue {
+    fn waiting(&self) -> &[Packet] {
+        &self.slots[..self.len]
+    }
+
+    fn is_sound(&self, priority: u32, most: u32, now: u64) -> bool {
+        if self.len > 5 {
+            return false;
+        }
+        let mut since = 0;
+        for p in self.waiting() {
+            let numbers = p.priority == priority
+                && (1..=most).contains(&p.ontime)
+                && (1..=60_000_000).contains(&p.lifetime);
+            if !numbers || p.arrival > now || p.arrival < since {
+                return false;
+            }
+            since = p.arrival;
+        }
+        self.slots[self.len..].iter().all(Packet::is_zero)
+    }
+
+    fn clear(&mut self, now: u64) {
+        let mut kept = 0;
+        for i in 0..self.len {
+            if self.slots[i].is_live(now) {
+                if kept != i {
+                    self.slots[kept] = self.slots[i];
+                }
+                kept += 1;
+            }
+        }
+        for slot in &mut self.slots[kept..self.len] {
+            *slot = Packet::default();
+        }
+        self.len = kept;
+    }
+
+    fn push(&mut self, p: Packet) {
+        self.slots[self.len] = p;
+        self.len += 1;
+    }
+
+    fn pop(&mut self) -> Packet {
+        let p = self.slots[0];
+        self.slots.copy_within(1.., 0);
+        self.slots[4] = Packet::default();
+        self.len -= 1;
+        p
+    }
+}
+
+impl State {
+    pub fn new(profile: u32, stamp: u32) -> State {
+        State {
+            profile,
+            stamp,
+            duty: 600_000,
+            live: 1,
+            ..State::default()
+        }
+    }
+
+    fn is_sound(&self) -> bool {
+        let control = self.live == 1
+            && (1..=3).contains(&self.profile)
+            && self.level <= 4
+            && (600_000..=30_000_000).contains(&self.duty)
+            && self.smoothed <= 1_000_000
+            && self.kept <= 1_000_000
+            && match self.pairing {
+                0 => self.kept == 0,
+                1 => self.profile == 3,
+                _ => false,
+            };
+        let most = most_ontime(self.profile);
+        let last = self.time <= END
+            && self.at <= self.time
+            && match self.any {
+                0 => self.at == 0 && self.ontime == 0,
+                1 => (1..=most).contains(&self.ontime),
+                _ => false,
+            };
+        control
+            && last
+            && (0..4).all(|k| self.queues[k].is_sound(k as u32, most, self.time))
+    }
+
+    /// The running time at a stamp, or the refusal.
+    fn time_at(&self, stamp: u32) -> Result<u64, Answer> {
+        let step = stamp.wrapping_sub(self.stamp);
+        if step >= 1 << 31 {
+            return Err(Answer::Refused(2));
+        }
+        let now = self.time + step as u64;
+        if now > END {
+            return Err(Answer::Refused(3));
+        }
+        Ok(now)
+    }
+
+    fn move_to(&mut self, now: u64, stamp: u32) {
+        self.time = now;
+        self.stamp = stamp;
+    }
+
+    fn clear(&mut self, now: u64, stamp: u32) {
+        self.move_to(now, stamp);
+        for q in &mut self.queues {
+            q.clear(now);
+        }
+    }
+
+    fn take_load(&mut self, load: u32) {
+        if self.profile != 3 {
+            let last = if self.profile == 1 { 600_000 } else { 650_000 };
+            let wanted = match load {
+                0..=299_999 => 0,
+                300_000..=399_999 => 1,
+                400_000..=499_999 => 2,
+                _ if load <= last => 3,
+                _ => 4,
+            };
+            if self.level < wanted {
+                self.level += 1;
+            } else if wanted < self.level {
+                self.level -= 1;
+            }
+        } else if self.pairing == 0 {
+            self.pairing = 1;
+            self.kept = load;
+        } else {
+            self.smoothed = (2 * self.smoothed + self.kept + load) / 4;
+            let offset = (6 * (680_000 - self.smoothed as i64)).div_euclid(5);
+            let duty = 984 * self.duty as i64 / 1000 + offset.clamp(-250_000, 500_000);
+            self.duty = duty.clamp(600_000, 30_000_000) as u32;
+            self.kept = 0;
+            self.pairing = 0;
+        }
+    }
+
+    fn wait(&self) -> u64 {
+        const WAITS: [[u64; 5]; 2] = [
+            [100_000, 200_000, 400_000, 500_000, 1_000_000],
+            [50_000, 100_000, 200_000, 250_000, 1_000_000],
+        ];
+        if self.profile < 3 {
+            return WAITS[self.profile as usize - 1][self.level as usize];
+        }
+        let spread = self.ontime as u64 * 1_000_000_000;
+        spread.div_ceil(self.duty as u64).clamp(25_000, 1_000_000)
+    }
+
+    /// (b) A sample by its busy count, in place.
+    pub fn sample(&mut self, busy: u32, stamp: u32) -> Answer {
+        let now = match self.time_at(stamp) {
+            Ok(now) => now,
+            Err(refused) => return refused,
+        };
+        if busy > 1000 {
+            return Answer::Refused(4);
+        }
+        self.move_to(now, stamp);
+        self.take_load(1000 * busy);
+        Answer::Taken
+    }
+
+    /// (b) An offer, in place.
+    pub fn offer(&mut self, [id, priority, ontime, lifetime]: [u32; 4], stamp: u32) -> Answer {
+        let now = match self.time_at(stamp) {
+            Ok(now) => now,
+            Err(refused) => return refused,
+        };
+        if priority > 3 {
+            return Answer::Refused(5);
+        }
+        if !(1..=most_ontime(self.profile)).contains(&ontime) {
+            return Answer::Refused(6);
+        }
+        if !(1..=60_000_000).contains(&lifetime) {
+            return Answer::Refused(7);
+        }
+        let q = &self.queues[priority as usize];
+        if q.len == 5 && q.waiting().iter().all(|p| p.is_live(now)) {
+            return Answer::Refused(8);
+        }
+        self.clear(now, stamp);
+        self.queues[priority as usize].push(Packet {
+            id,
+            priority,
+            ontime,
+            lifetime,
+            arrival: now,
+        });
+        Answer::Taken
+    }
+
+    /// (b) A poll, in place.
+    pub fn poll(&mut self, stamp: u32) -> Answer {
+        let now = match self.time_at(stamp) {
+            Ok(now) => now,
+            Err(refused) => return refused,
+        };
+        self.clear(now, stamp);
+        let Some(k) = self.queues.iter().position(|q| q.len > 0) else {
+            return Answer::Idle;
+        };
+        if self.any == 1 {
+            let (wait, passed) = (self.wait(), now - self.at);
+            if passed < wait {
+                return Answer::Closed(wait - passed);
+            }
+        }
+        let p = self.queues[k].pop();
+        self.any = 1;
+        self.at = now;
+        self.ontime = p.ontime;
+        Answer::Sent(p)
+    }
+}
+
+/// (a) The same calls by value, each with the soundness test, not inlined: as a library offers them.
+pub mod by_value {
+    use super::{Answer, State};
+
+    #[inline(never)]
+    pub fn sample(mut s: State, busy: u32, stamp: u32) -> (State, Answer) {
+        if !s.is_sound() {
+            return (s, Answer::Refused(9));
+        }
+        let answer = s.sample(busy, stamp);
+        (s, answer)
+    }
+
+    #[inline(never)]
+    pub fn offer(mut s: State, numbers: [u32; 4], stamp: u32) -> (State, Answer) {
+        if !s.is_sound() {
+            return (s, Answer::Refused(9));
+        }
+        let answer = s.offer(numbers, stamp);
+        (s, answer)
+    }
+
+    #[inline(never)]
+    pub fn poll(mut s: State, stamp: u32) -> (State, Answer) {
+        if !s.is_sound() {
+            return (s, Answer::Refused(9));
+        }
+        let answer = s.poll(stamp);
+        (s, answer)
+    }
+}

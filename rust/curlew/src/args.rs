@@ -1,0 +1,324 @@
+//! The command line.
+
+use crate::fault::Fault;
+use crate::plain::{time_of, WriteWish};
+use crate::plot::PlotWish;
+use crate::show::ShowWish;
+use crate::stream::STANDARD;
+
+const HELP: &str = "\
+curlew: make, read, check and draw call logs of the Presscurlew gate
+
+  curlew write [IN.txt] [-o OUT.log]         plain text to a log
+  curlew show LOG [ANSWERS]                  a table: time, call, answer, what waits, level or duty
+  curlew check LOG ANSWERS                   were ceiling and floor kept, and how near was it
+  curlew plot LOG [ANSWERS] -o OUT.svg       a picture of a run
+  curlew --help | --version                  'curlew COMMAND --help' says more on one command
+
+LOG is a call log: records of 16 bytes. ANSWERS is what the program wrote for it:
+
+  replay <my.log >my.out
+
+A name of - is standard input or output. Long input is read piece by piece, and how far it is
+goes to standard error.
+
+Exit status: 0 done, and of check: all was kept; 1 a guarantee was not kept, or an answer is
+wrong; 2 bad usage, a file that can't be read, or input that is not what it should be.
+";
+
+const WRITE_HELP: &str = "\
+curlew write [IN.txt] [-o OUT.log]: plain text to a log
+
+Reads standard input without IN.txt, writes to standard output without -o. One call a line;
+# starts a comment; blank lines are nothing.
+
+  make PROFILE at STAMP
+  sample BUSY at STAMP                       BUSY of 1,000 probes were busy
+  offer ID priority P ontime T lifetime T at STAMP
+  poll at STAMP
+  raw B B B ..                               any record: 16 bytes, 00 to ff
+  tail B B ..                                1 to 15 bytes left over; nothing may come after
+
+STAMP is the radio's count, 0 to 4294967295, or +T or -T from the stamp before; it wraps.
+T is a time in µs, or with a unit: 400, 400us, 50ms, 1s. _ may stand between digits.
+Numbers that the gate refuses may be written, as long as the record has room for them.
+
+  make 2 at 4294967000
+  offer 7 priority 2 ontime 400 lifetime 1s at +100      # 7 waits up to a second
+  poll at +100
+";
+
+const SHOW_HELP: &str = "\
+curlew show [--from N] [--first N] [--brief] LOG [ANSWERS]: a log as a table
+curlew show [--from N] [--first N] --plain LOG: a log in the plain form
+
+A line a record: its number, the run's time in seconds, the call, the answer, how many packets
+wait in the queue of each priority, and the level (profiles 1 and 2) or the duty (profile 3)
+with the wait between two packets that it asks for. What waits is counted from calls and
+answers alone. Without ANSWERS, the answers are those of the second program. A line starts
+with ! where an answer is wrong, and the reason stands below it.
+
+  --from N     start at record N
+  --first N    show N lines
+  --brief      leave out samples, and polls that sent nothing
+  --plain      show the log in the plain form that 'curlew write' reads, and nothing else
+";
+
+const CHECK_HELP: &str = "\
+curlew check LOG ANSWERS: were ceiling and floor kept
+
+Keeps a book of each run (a make that was ready, and the calls up to the next make) from the
+calls and the answers alone, and says of each run:
+
+  Ceiling    in any window of W µs, 100 x air time is at most 3 W + 400,000
+  Floor      a poll that finds a packet 1 s or more after the last admission sends
+  Turn       of each priority in order; one of priority 0 sees no more go than came before it
+  Delivery   one of priority 0 with k before it and polls at most p apart goes in time:
+             no later than (k + 1) x (1 s + p) after it came, if it lives longer than that
+  Answers    each is what the second program answers
+
+with the nearest that the run came to its limit. ANSWERS must fit the log: a line a record,
+then END or TORN. Exit status 1 if anything was not kept, 2 if the answers don't fit.
+";
+
+const PLOT_HELP: &str = "\
+curlew plot [--run N] [--from T] [--to T] LOG [ANSWERS] -o OUT.svg: a picture of a run
+
+Over the run's time: the channel load, the level or duty, what waits in each queue, what was
+sent and what expired, the time since the last admission beside the floor, and the air time in
+a sliding second beside the ceiling. LOG and ANSWERS are read twice, so they can't be -.
+
+  --run N      the Nth run of the log (the first)
+  --from T     a part of the run: from this time on, in µs or with a unit, as 500ms or 12s
+  --to T       up to this time
+  --title T    a title of your own
+";
+
+/// What was asked for.
+pub enum Command {
+    /// A text to say.
+    Say(String),
+    /// `curlew write`.
+    Write(WriteWish),
+    /// `curlew show`.
+    Show(ShowWish),
+    /// `curlew check`.
+    Check(CheckWish),
+    /// `curlew plot`.
+    Plot(PlotWish),
+}
+
+/// What `curlew check` was asked for.
+pub struct CheckWish {
+    /// The log.
+    pub log: String,
+    /// The program's output.
+    pub answers: String,
+}
+
+/// The words of the command line.
+pub fn words() -> Result<Vec<String>, Fault> {
+    let mut words = Vec::new();
+    for word in std::env::args_os().skip(1) {
+        match word.into_string() {
+            Ok(word) => words.push(word),
+            Err(word) => return Err(usage(&format!("{word:?} is no text"))),
+        }
+    }
+    Ok(words)
+}
+
+/// The command of some words.
+pub fn parse(words: &[String]) -> Result<Command, Fault> {
+    let Some((first, rest)) = words.split_first() else {
+        return Err(usage("there is no command"));
+    };
+    let help = match first.as_str() {
+        "--help" | "-h" | "help" => return Ok(Command::Say(HELP.to_string())),
+        "--version" | "-V" => {
+            let version = env!("CARGO_PKG_VERSION");
+            return Ok(Command::Say(format!("curlew {version}\n")));
+        }
+        "write" => WRITE_HELP,
+        "show" => SHOW_HELP,
+        "check" => CHECK_HELP,
+        "plot" => PLOT_HELP,
+        other => return Err(usage(&format!("there is no command '{other}'"))),
+    };
+    if rest.iter().any(|word| word == "--help" || word == "-h") {
+        return Ok(Command::Say(help.to_string()));
+    }
+    match first.as_str() {
+        "write" => write(Given::of(rest, &["-o"], &[])?),
+        "show" => show(Given::of(
+            rest,
+            &["--from", "--first"],
+            &["--plain", "--brief"],
+        )?),
+        "check" => check(Given::of(rest, &[], &[])?),
+        _ => plot(Given::of(
+            rest,
+            &["-o", "--run", "--title", "--from", "--to"],
+            &[],
+        )?),
+    }
+}
+
+fn write(mut given: Given) -> Result<Command, Fault> {
+    given.at_most(1)?;
+    let output = given.take("-o").unwrap_or(STANDARD.to_string());
+    let input = given.names.pop().unwrap_or(STANDARD.to_string());
+    Ok(Command::Write(WriteWish { input, output }))
+}
+
+fn show(mut given: Given) -> Result<Command, Fault> {
+    given.at_most(2)?;
+    let from = given.number("--from")?.unwrap_or(1);
+    let first = given.number("--first")?;
+    let plain = given.has("--plain");
+    let brief = given.has("--brief");
+    let (log, answers) = given.log_and_answers()?;
+    if plain && (brief || answers.is_some()) {
+        return Err(usage("--plain shows the log alone: no --brief, no ANSWERS"));
+    }
+    Ok(Command::Show(ShowWish {
+        log,
+        answers,
+        from,
+        first,
+        brief,
+        plain,
+    }))
+}
+
+fn check(mut given: Given) -> Result<Command, Fault> {
+    given.at_most(2)?;
+    let (log, answers) = given.log_and_answers()?;
+    let Some(answers) = answers else {
+        return Err(usage("the name of the ANSWERS is missing"));
+    };
+    Ok(Command::Check(CheckWish { log, answers }))
+}
+
+fn plot(mut given: Given) -> Result<Command, Fault> {
+    given.at_most(2)?;
+    let run = given.number("--run")?.unwrap_or(1);
+    let title = given.take("--title");
+    let from = given.time("--from")?;
+    let to = given.time("--to")?;
+    let Some(output) = given.take("-o") else {
+        return Err(usage("-o and the name of the picture are missing"));
+    };
+    let (log, answers) = given.log_and_answers()?;
+    if log == STANDARD || answers.as_deref() == Some(STANDARD) {
+        return Err(usage(
+            "plot reads its input twice: it must be a file, not -",
+        ));
+    }
+    Ok(Command::Plot(PlotWish {
+        log,
+        answers,
+        output,
+        run,
+        title,
+        from,
+        to,
+    }))
+}
+
+/// The words after the command, sorted.
+#[derive(Debug)]
+struct Given {
+    names: Vec<String>,
+    values: Vec<(String, String)>,
+    flags: Vec<String>,
+}
+
+impl Given {
+    /// Sorts the words: options with a value, flags, and names.
+    fn of(words: &[String], valued: &[&str], flags: &[&str]) -> Result<Given, Fault> {
+        let mut given = Given {
+            names: Vec::new(),
+            values: Vec::new(),
+            flags: Vec::new(),
+        };
+        let mut words = words.iter();
+        while let Some(word) = words.next() {
+            if valued.contains(&word.as_str()) {
+                let Some(value) = words.next() else {
+                    return Err(usage(&format!("{word} needs a value")));
+                };
+                if given.values.iter().any(|(name, _)| name == word) {
+                    return Err(usage(&format!("{word} is there twice")));
+                }
+                given.values.push((word.clone(), value.clone()));
+            } else if flags.contains(&word.as_str()) {
+                given.flags.push(word.clone());
+            } else if word.starts_with('-') && word != STANDARD {
+                return Err(usage(&format!("there is no option '{word}' here")));
+            } else {
+                given.names.push(word.clone());
+            }
+        }
+        Ok(given)
+    }
+
+    fn has(&self, flag: &str) -> bool {
+        self.flags.iter().any(|word| word == flag)
+    }
+
+    fn at_most(&self, most: usize) -> Result<(), Fault> {
+        match self.names.get(most) {
+            Some(word) => Err(usage(&format!("'{word}' is one name too many"))),
+            None => Ok(()),
+        }
+    }
+
+    fn take(&mut self, option: &str) -> Option<String> {
+        let at = self.values.iter().position(|(name, _)| name == option)?;
+        Some(self.values.remove(at).1)
+    }
+
+    /// A number of 1 or more.
+    fn number(&mut self, option: &str) -> Result<Option<u64>, Fault> {
+        let Some(value) = self.take(option) else {
+            return Ok(None);
+        };
+        match value.parse() {
+            Ok(number) if number > 0 => Ok(Some(number)),
+            _ => Err(usage(&format!(
+                "{option} needs a number from 1 on, not '{value}'"
+            ))),
+        }
+    }
+
+    /// A time.
+    fn time(&mut self, option: &str) -> Result<Option<u64>, Fault> {
+        let Some(value) = self.take(option) else {
+            return Ok(None);
+        };
+        match time_of(&value) {
+            Some(time) => Ok(Some(time)),
+            None => Err(usage(&format!(
+                "{option} needs a time, as 12s, not '{value}'"
+            ))),
+        }
+    }
+
+    fn log_and_answers(&mut self) -> Result<(String, Option<String>), Fault> {
+        let mut names = self.names.drain(..);
+        let Some(log) = names.next() else {
+            return Err(usage("the name of the LOG is missing"));
+        };
+        let answers = names.next();
+        if log == STANDARD && answers.as_deref() == Some(STANDARD) {
+            return Err(usage("only one of LOG and ANSWERS can be -"));
+        }
+        Ok((log, answers))
+    }
+}
+
+/// Bad usage, in words.
+fn usage(text: &str) -> Fault {
+    Fault::bad(format!("{text}; 'curlew --help' says how"))
+}

@@ -1,0 +1,225 @@
+//! `curlew check`: the verdict over a log and its answers.
+
+use std::io::{self, BufWriter, StdoutLock, Write};
+
+use reference::book::FLOOR;
+
+use crate::args::CheckWish;
+use crate::fault::Fault;
+use crate::follow::{follow, refusal_name, size, Hearer, Row, Run};
+use crate::text::{count, grouped, seconds, span};
+use crate::watch::{Wait, SECOND};
+
+/// So many runs are told in full; of more, only those that were not kept.
+const TOLD_IN_FULL: u64 = 20;
+
+/// Checks a log and its answers.
+pub fn check(wish: &CheckWish) -> Result<(), Fault> {
+    let mut verdict = Verdict {
+        output: BufWriter::new(io::stdout().lock()),
+        broken: 0,
+        kept: 0,
+    };
+    let whole = follow("check", &wish.log, Some(&wish.answers), &mut verdict)?;
+    let out = &mut verdict.output;
+    if verdict.kept > TOLD_IN_FULL {
+        let more = count(verdict.kept - TOLD_IN_FULL, "more run");
+        writeln!(out, "{more} KEPT, not told one by one.\n")?;
+    }
+    if let Some(text) = &whole.loose {
+        writeln!(out, "Outside of all runs, NOT KEPT: {text}\n")?;
+    }
+    writeln!(out, "{}: {}, answers fit.", wish.log, size(&whole))?;
+    let kept = verdict.broken == 0 && whole.loose.is_none();
+    if kept && whole.runs == 0 {
+        writeln!(out, "Verdict: KEPT, but there was no run to look at.")?;
+    } else if kept {
+        writeln!(out, "Verdict: KEPT. Ceiling and floor held throughout.")?;
+    } else if verdict.broken > 0 {
+        let of = count(whole.runs, "run");
+        writeln!(out, "Verdict: NOT KEPT in {} of {of}.", verdict.broken)?;
+    } else {
+        writeln!(
+            out,
+            "Verdict: NOT KEPT: an answer outside of all runs is wrong."
+        )?;
+    }
+    out.flush()?;
+    if kept {
+        Ok(())
+    } else {
+        Err(Fault::NotKept)
+    }
+}
+
+/// The verdict on its way to standard output.
+struct Verdict<'a> {
+    output: BufWriter<StdoutLock<'a>>,
+    broken: u64,
+    kept: u64,
+}
+
+impl Hearer for Verdict<'_> {
+    fn row(&mut self, _row: &Row) -> Result<(), Fault> {
+        Ok(())
+    }
+
+    fn run_over(&mut self, run: &Run) -> Result<(), Fault> {
+        let out = &mut self.output;
+        if let Some(text) = &run.wrong {
+            self.broken += 1;
+            writeln!(out, "Run {}: {}", grouped(run.number), run.title())?;
+            writeln!(out, "  NOT KEPT   {text}\n")?;
+            return Ok(());
+        }
+        self.kept += 1;
+        if self.kept > TOLD_IN_FULL {
+            return Ok(());
+        }
+        writeln!(out, "Run {}: {}", grouped(run.number), run.title())?;
+        for (name, text) in report(run) {
+            writeln!(out, "  {name:<9}  {text}")?;
+        }
+        writeln!(out)?;
+        Ok(())
+    }
+}
+
+/// The lines on a run that was kept.
+fn report(run: &Run) -> Vec<(&'static str, String)> {
+    let mut lines = vec![("Calls", calls(run)), ("Packets", packets(run))];
+    ceiling(run, &mut lines);
+    floor(run, &mut lines);
+    turn(run, &mut lines);
+    let answers = count(run.last - run.first + 1, "answer");
+    lines.push((
+        "Answers",
+        format!("KEPT. {answers}, each the second program's."),
+    ));
+    lines
+}
+
+fn calls(run: &Run) -> String {
+    let watch = &run.watch;
+    let mut text = format!(
+        "accepted: {}, {}, {}",
+        count(watch.samples, "sample"),
+        count(run.book.offers(), "offer"),
+        count(watch.polls, "poll")
+    );
+    let refused: Vec<String> = (0u32..)
+        .zip(watch.refusals)
+        .filter(|(_, times)| *times > 0)
+        .map(|(number, times)| format!("{} {}", grouped(times), refusal_name(number)))
+        .collect();
+    if refused.is_empty() {
+        text += "; none refused";
+    } else {
+        text += &format!("; refused: {}", refused.join(", "));
+    }
+    text
+}
+
+fn packets(run: &Run) -> String {
+    format!(
+        "{} taken: {} sent, {} expired, {} waiting at the end",
+        grouped(run.book.offers()),
+        grouped(run.book.admissions()),
+        grouped(run.book.expiries()),
+        grouped(run.waiting())
+    )
+}
+
+fn ceiling(run: &Run, lines: &mut Vec<(&'static str, String)>) {
+    let (Some(window), Some((air, at))) = (run.watch.closest, run.watch.fullest_second) else {
+        lines.push(("Ceiling", "KEPT: nothing was sent".to_string()));
+        return;
+    };
+    let most = (3 * SECOND + 400_000) / 100;
+    lines.push((
+        "Ceiling",
+        format!(
+            "KEPT. Most air time in any second: {} of {}, up to {} s.",
+            span(air),
+            span(most),
+            seconds(at)
+        ),
+    ));
+    let alone = window.from == window.to;
+    let place = if alone {
+        format!("one packet at {} s", seconds(window.to))
+    } else {
+        format!(
+            "the {} from {} s on",
+            span(window.to - window.from),
+            seconds(window.from)
+        )
+    };
+    lines.push((
+        "",
+        format!(
+            "Closest call: {place}, with {} of the {} allowed.",
+            span(window.air),
+            span(window.allowed())
+        ),
+    ));
+}
+
+fn floor(run: &Run, lines: &mut Vec<(&'static str, String)>) {
+    let first = match run.book.closest().latest_closed {
+        Some(latest) => format!(
+            "KEPT. Latest CLOSED: {} after an admission; from {} on a poll sends.",
+            span(latest),
+            span(FLOOR)
+        ),
+        None => "KEPT. No poll found the gate closed.".to_string(),
+    };
+    lines.push(("Floor", first));
+    if let Some((hold, at)) = run.watch.longest_hold {
+        lines.push((
+            "",
+            format!(
+                "Longest that packets waited and none went: {}, up to the SENT at {} s.",
+                span(hold),
+                seconds(at)
+            ),
+        ));
+    }
+}
+
+fn turn(run: &Run, lines: &mut Vec<(&'static str, String)>) {
+    let watch = &run.watch;
+    let most = run.book.closest().most_seen;
+    let seen = match most {
+        0 => "no packet of priority 0 saw another go first".to_string(),
+        most => format!(
+            "a packet of priority 0 saw {} others go first, which came before it",
+            grouped(most)
+        ),
+    };
+    lines.push(("Turn", format!("KEPT. Each in its turn; {seen}.")));
+    let delivery = match watch.zero_sent + watch.zero_expired {
+        0 => "KEPT. No packet of priority 0 left.".to_string(),
+        _ => format!(
+            "KEPT. Of priority 0, {} went and {} expired.",
+            grouped(watch.zero_sent),
+            grouped(watch.zero_expired)
+        ),
+    };
+    lines.push(("Delivery", delivery));
+    if let Some(wait) = watch.nearest_wait {
+        lines.push(("", nearest(&wait)));
+    }
+}
+
+/// The wait that came nearest to its bound.
+fn nearest(wait: &Wait) -> String {
+    format!(
+        "Closest call: packet {} went after {}; the label says at most {} x (1 s + {}) = {}.",
+        wait.id,
+        span(wait.waited),
+        wait.before + 1,
+        span(wait.apart),
+        span(wait.bound())
+    )
+}

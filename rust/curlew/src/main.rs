@@ -1,0 +1,48 @@
+//! `curlew`: makes call logs of the gate, shows them, checks them and draws
+//! them. `curlew --help` says how; `examples/logs/README.md` has
+//! more.
+//!
+//! - [`plain`]: the plain text form of a log, and `write`
+//! - [`stream`]: records and answers, read one at a time
+//! - [`follow`]: a log followed run by run, with the book of each run
+//! - [`watch`]: how near a run came to what is guaranteed
+//! - [`show`], [`check`], [`plot`]: the other three commands
+//!
+//! A log is read one record at a time, so that its length does not matter.
+
+#![forbid(unsafe_code)]
+
+mod args;
+mod check;
+mod fault;
+mod follow;
+mod plain;
+mod plot;
+mod progress;
+mod show;
+mod stream;
+mod svg;
+mod text;
+mod watch;
+
+use std::process::ExitCode;
+
+use args::Command;
+
+fn main() -> ExitCode {
+    let words: Vec<String> = match args::words() {
+        Ok(words) => words,
+        Err(fault) => return fault.report(),
+    };
+    let done = args::parse(&words).and_then(|command| match command {
+        Command::Say(text) => text::say(&text),
+        Command::Write(write) => plain::write(&write),
+        Command::Show(show) => show::show(&show),
+        Command::Check(check) => check::check(&check),
+        Command::Plot(plot) => plot::plot(&plot),
+    });
+    match done {
+        Ok(()) => ExitCode::SUCCESS,
+        Err(fault) => fault.report(),
+    }
+}

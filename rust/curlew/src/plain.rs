@@ -1,0 +1,513 @@
+//! The plain text form of a log: one call a line. `curlew write` turns it into
+//! records, and `curlew show --plain` turns records back into it.
+
+use std::fs::File;
+use std::io::{self, BufRead, BufWriter, Write};
+
+use reference::log::{Record, RECORD_BYTES};
+
+use crate::fault::Fault;
+use crate::progress::Progress;
+use crate::stream::{open, STANDARD};
+use crate::text::quoted;
+
+/// What `curlew write` was asked for.
+pub struct WriteWish {
+    /// The plain text; "-" is standard input.
+    pub input: String,
+    /// Where the records go; "-" is standard output.
+    pub output: String,
+}
+
+/// The longest line that is read.
+const LONGEST_LINE: u64 = 4_096;
+
+/// Writes the records of a plain text. A file comes to be only as a whole: a
+/// text with an error leaves what was there.
+pub fn write(wish: &WriteWish) -> Result<(), Fault> {
+    let mut input = open(&wish.input)?;
+    let name = if wish.input == STANDARD {
+        "standard input"
+    } else {
+        &wish.input
+    };
+    if wish.output == STANDARD {
+        let mut output = BufWriter::new(io::stdout().lock());
+        records(&mut input, name, &mut output)?;
+        return Ok(output.flush()?);
+    }
+    whole_file(&wish.output, |output| records(&mut input, name, output))
+}
+
+/// Writes a file that comes to be only as a whole.
+pub fn whole_file(
+    name: &str,
+    write: impl FnOnce(&mut dyn Write) -> Result<(), Fault>,
+) -> Result<(), Fault> {
+    let cannot = |error: io::Error| Fault::file(name, &error);
+    let there = std::fs::metadata(name);
+    if there.is_ok_and(|data| !data.is_file()) {
+        // A folder says so by itself; a device or a pipe takes what comes.
+        let mut output = BufWriter::new(File::create(name).map_err(cannot)?);
+        write(&mut output)?;
+        return output.flush().map_err(cannot);
+    }
+    let half = format!("{name}.half");
+    let mut output = BufWriter::new(File::create(&half).map_err(cannot)?);
+    let written = write(&mut output)
+        .and_then(|()| output.flush().map_err(cannot))
+        .and_then(|()| std::fs::rename(&half, name).map_err(cannot));
+    if written.is_err() {
+        let _ = std::fs::remove_file(&half); // it may not be there any more
+    }
+    written
+}
+
+/// Writes the records of a plain text.
+fn records(input: &mut dyn BufRead, name: &str, output: &mut dyn Write) -> Result<(), Fault> {
+    let mut reader = Reader::default();
+    let mut progress = Progress::new("write", None);
+    let mut bytes = Vec::new();
+    let mut written = 0;
+    for number in 1u64.. {
+        bytes.clear();
+        let mut part = io::Read::take(&mut *input, LONGEST_LINE);
+        let got = part.read_until(b'\n', &mut bytes);
+        let got = got.map_err(|error| Fault::file(name, &error))?;
+        if got == 0 {
+            break;
+        }
+        let read = line_text(&bytes).and_then(|text| reader.line(text));
+        match read {
+            Ok(Some(part)) => {
+                output.write_all(&part)?;
+                written += 1;
+                progress.at(written);
+            }
+            Ok(None) => {}
+            Err(text) => return Err(Fault::bad(format!("{name}, line {number}: {text}"))),
+        }
+    }
+    Ok(())
+}
+
+/// The text of a line, its end taken off.
+fn line_text(bytes: &[u8]) -> Result<&str, String> {
+    if bytes.len() as u64 == LONGEST_LINE && !bytes.ends_with(b"\n") {
+        return Err(format!("the line is longer than {LONGEST_LINE} bytes"));
+    }
+    std::str::from_utf8(bytes).map_err(|_| format!("{} is no text", quoted(bytes)))
+}
+
+/// Reads line by line, for a stamp may be told by the one before it.
+#[derive(Default)]
+pub struct Reader {
+    stamp: Option<u32>,
+    torn: bool,
+}
+
+/// The words of one line that are still to be read.
+struct Words<'a> {
+    words: std::str::SplitWhitespace<'a>,
+}
+
+impl Reader {
+    /// The bytes of a line: a record, a tail, or nothing.
+    pub fn line(&mut self, line: &str) -> Result<Option<Vec<u8>>, String> {
+        let text = line.split('#').next().unwrap_or_default();
+        let mut words = Words {
+            words: text.split_whitespace(),
+        };
+        let Some(first) = words.words.next() else {
+            return Ok(None);
+        };
+        if self.torn {
+            return Err("nothing may come after a tail".to_string());
+        }
+        let record = match first {
+            "make" => self.make(&mut words)?,
+            "sample" => self.sample(&mut words)?,
+            "offer" => self.offer(&mut words)?,
+            "poll" => self.poll(&mut words)?,
+            "raw" => Record::from_bytes(&words.raw()?),
+            "tail" => {
+                self.torn = true;
+                return words.tail().map(Some);
+            }
+            other => {
+                return Err(format!(
+                "'{other}' is no call; a line starts with make, sample, offer, poll, raw or tail"
+            ))
+            }
+        };
+        words.end()?;
+        self.stamp = Some(record.stamp);
+        Ok(Some(record.to_bytes().to_vec()))
+    }
+
+    fn make(&self, words: &mut Words) -> Result<Record, String> {
+        let priority = words.small("the profile")?;
+        let stamp = self.at(words)?;
+        Ok(Record {
+            kind: 0,
+            priority,
+            stamp,
+            ..Record::default()
+        })
+    }
+
+    fn sample(&self, words: &mut Words) -> Result<Record, String> {
+        let id = words.number("the busy count")?;
+        let stamp = self.at(words)?;
+        Ok(Record {
+            kind: 1,
+            id,
+            stamp,
+            ..Record::default()
+        })
+    }
+
+    fn poll(&self, words: &mut Words) -> Result<Record, String> {
+        let stamp = self.at(words)?;
+        Ok(Record {
+            kind: 3,
+            stamp,
+            ..Record::default()
+        })
+    }
+
+    /// An offer; what comes after the identifier may come in any order.
+    fn offer(&self, words: &mut Words) -> Result<Record, String> {
+        let id = words.number("the identifier")?;
+        let (mut priority, mut ontime, mut lifetime, mut stamp) = (None, None, None, None);
+        while let Some(word) = words.words.next() {
+            let again = match word {
+                "priority" => priority.replace(words.small("the priority")?).is_some(),
+                "ontime" => ontime.replace(words.time("the on-time")?).is_some(),
+                "lifetime" => lifetime.replace(words.time("the lifetime")?).is_some(),
+                "at" => stamp.replace(self.stamp(words)?).is_some(),
+                other => {
+                    return Err(format!(
+                        "'{other}' is out of place; an offer has priority, ontime, lifetime and at"
+                    ))
+                }
+            };
+            if again {
+                return Err(format!("'{word}' is there twice"));
+            }
+        }
+        let missing = |word: &str| format!("'{word}' and its number are missing");
+        let ontime = ontime.ok_or_else(|| missing("ontime"))?;
+        Ok(Record {
+            kind: 2,
+            priority: priority.ok_or_else(|| missing("priority"))?,
+            ontime: fit(ontime, u64::from(u16::MAX), "the on-time")? as u16,
+            lifetime: fit(
+                lifetime.ok_or_else(|| missing("lifetime"))?,
+                u64::from(u32::MAX),
+                "the lifetime",
+            )? as u32,
+            id,
+            stamp: stamp.ok_or_else(|| missing("at"))?,
+        })
+    }
+
+    /// "at" and a stamp.
+    fn at(&self, words: &mut Words) -> Result<u32, String> {
+        match words.words.next() {
+            Some("at") => self.stamp(words),
+            Some(other) => Err(format!("'{other}' where 'at' is due")),
+            None => Err("'at' and its stamp are missing".to_string()),
+        }
+    }
+
+    /// A stamp: a number, or + or - and a time from the stamp before.
+    fn stamp(&self, words: &mut Words) -> Result<u32, String> {
+        let word = words.word("the stamp")?;
+        let forward = word.strip_prefix('+');
+        let Some(step) = forward.or_else(|| word.strip_prefix('-')) else {
+            let stamp = time_of(word).ok_or_else(|| no_number(word, "the stamp"))?;
+            return Ok(fit(stamp, u64::from(u32::MAX), "the stamp")? as u32);
+        };
+        let Some(before) = self.stamp else {
+            return Err(format!(
+                "'{word}' needs a stamp before it, and there is none"
+            ));
+        };
+        let step = time_of(step).ok_or_else(|| no_number(word, "the stamp"))?;
+        let step = fit(step, u64::from(u32::MAX), "the step")? as u32;
+        Ok(match forward {
+            Some(_) => before.wrapping_add(step),
+            None => before.wrapping_sub(step),
+        })
+    }
+}
+
+impl<'a> Words<'a> {
+    fn word(&mut self, what: &str) -> Result<&'a str, String> {
+        self.words
+            .next()
+            .ok_or_else(|| format!("{what} is missing"))
+    }
+
+    /// A number of 32 bits.
+    fn number(&mut self, what: &str) -> Result<u32, String> {
+        let word = self.word(what)?;
+        let number = number_of(word).ok_or_else(|| no_number(word, what))?;
+        Ok(fit(number, u64::from(u32::MAX), what)? as u32)
+    }
+
+    /// A number of 8 bits.
+    fn small(&mut self, what: &str) -> Result<u8, String> {
+        let word = self.word(what)?;
+        let number = number_of(word).ok_or_else(|| no_number(word, what))?;
+        Ok(fit(number, u64::from(u8::MAX), what)? as u8)
+    }
+
+    /// A time, with or without a unit.
+    fn time(&mut self, what: &str) -> Result<u64, String> {
+        let word = self.word(what)?;
+        time_of(word).ok_or_else(|| no_number(word, what))
+    }
+
+    /// Bytes in hexadecimal, to the end of the line.
+    fn bytes(&mut self) -> Result<Vec<u8>, String> {
+        let mut bytes = Vec::new();
+        for word in self.words.by_ref() {
+            let two = word.len() == 2 && word.bytes().all(|byte| byte.is_ascii_hexdigit());
+            match u8::from_str_radix(word, 16) {
+                Ok(byte) if two => bytes.push(byte),
+                _ => return Err(format!("'{word}' is no byte; a byte is 00 to ff")),
+            }
+        }
+        Ok(bytes)
+    }
+
+    fn raw(&mut self) -> Result<[u8; RECORD_BYTES], String> {
+        let bytes = self.bytes()?;
+        let got = bytes.len();
+        bytes
+            .try_into()
+            .map_err(|_| format!("a raw record has 16 bytes, here are {got}"))
+    }
+
+    fn tail(&mut self) -> Result<Vec<u8>, String> {
+        let bytes = self.bytes()?;
+        match bytes.len() {
+            1..=15 => Ok(bytes),
+            got => Err(format!("a tail has 1 to 15 bytes, here are {got}")),
+        }
+    }
+
+    fn end(&mut self) -> Result<(), String> {
+        match self.words.next() {
+            None => Ok(()),
+            Some(word) => Err(format!("'{word}' is one word too many")),
+        }
+    }
+}
+
+/// A decimal number; _ may stand between digits.
+fn number_of(word: &str) -> Option<u64> {
+    let first = word.starts_with(|c: char| c.is_ascii_digit());
+    let good = word.bytes().all(|b| b.is_ascii_digit() || b == b'_');
+    if !first || !good {
+        return None;
+    }
+    let digits: String = word.chars().filter(|c| *c != '_').collect();
+    Some(digits.parse().unwrap_or(u64::MAX)) // too long for 64 bits is too large for any field
+}
+
+/// A time in µs: a number, or one with us, ms or s after it.
+pub fn time_of(word: &str) -> Option<u64> {
+    let (digits, unit) = match word.find(|c: char| c.is_ascii_alphabetic()) {
+        Some(at) => word.split_at(at),
+        None => (word, "us"),
+    };
+    let unit = match unit {
+        "us" => 1,
+        "ms" => 1_000,
+        "s" => 1_000_000,
+        _ => return None,
+    };
+    Some(number_of(digits)?.saturating_mul(unit))
+}
+
+fn no_number(word: &str, what: &str) -> String {
+    format!("'{word}' is no number for {what}")
+}
+
+/// The number, if the record has room for it.
+fn fit(number: u64, most: u64, what: &str) -> Result<u64, String> {
+    if number <= most {
+        Ok(number)
+    } else {
+        Err(format!("{what} is too large for a record: at most {most}"))
+    }
+}
+
+/// A record in the plain form, its stamp told in full. A record that the words
+/// can't say, as one with an ignored field that is not zero, is told raw.
+pub fn line(record: &Record) -> String {
+    let text = call(record);
+    let back = Reader::default().line(&text);
+    if back == Ok(Some(record.to_bytes().to_vec())) {
+        text
+    } else {
+        format!("raw {}", hex(&record.to_bytes()))
+    }
+}
+
+/// The call of a record in the plain form; what the gate ignores is left out.
+pub fn call(record: &Record) -> String {
+    let Record {
+        kind,
+        priority,
+        ontime,
+        lifetime,
+        id,
+        stamp,
+    } = record;
+    match kind {
+        0 => format!("make {priority} at {stamp}"),
+        1 => format!("sample {id} at {stamp}"),
+        2 => {
+            format!("offer {id} priority {priority} ontime {ontime} lifetime {lifetime} at {stamp}")
+        }
+        3 => format!("poll at {stamp}"),
+        _ => format!("raw {}", hex(&record.to_bytes())),
+    }
+}
+
+/// Bytes in hexadecimal with blanks between.
+pub fn hex(bytes: &[u8]) -> String {
+    let each: Vec<String> = bytes.iter().map(|byte| format!("{byte:02x}")).collect();
+    each.join(" ")
+}
+
+#[cfg(test)]
+mod tests {
+    use super::*;
+    use reference::rng::Rng;
+
+    fn record_of(line: &str) -> Record {
+        let bytes = Reader::default().line(line).unwrap().unwrap();
+        Record::from_bytes(&bytes.try_into().unwrap())
+    }
+
+    #[test]
+    fn each_call_is_read() {
+        let read = record_of("offer 7 priority 2 ontime 400 lifetime 1_000_000 at 4294967100");
+        let offer = Record {
+            kind: 2,
+            priority: 2,
+            ontime: 400,
+            lifetime: 1_000_000,
+            id: 7,
+            stamp: 4_294_967_100,
+        };
+        assert_eq!(read, offer);
+        let other =
+            record_of("offer 7 at 4294967100 lifetime 1s ontime 400us priority 2 # warning");
+        assert_eq!(other, offer);
+        assert_eq!(line(&record_of("make 2 at 5ms")), "make 2 at 5000");
+        assert_eq!(line(&record_of("  poll   at 7")), "poll at 7");
+        assert_eq!(line(&record_of("sample 600 at 0")), "sample 600 at 0");
+    }
+
+    #[test]
+    fn a_stamp_may_follow_the_one_before() {
+        let mut reader = Reader::default();
+        let mut stamp = |line: &str| {
+            let bytes = reader.line(line).unwrap().unwrap();
+            Record::from_bytes(&bytes.try_into().unwrap()).stamp
+        };
+        assert_eq!(stamp("make 1 at 4294967000"), 4_294_967_000);
+        assert_eq!(stamp("poll at +1000"), 704);
+        assert_eq!(stamp("poll at -1000"), 4_294_967_000);
+        assert_eq!(stamp("poll at +10ms"), 9_704);
+    }
+
+    #[test]
+    fn blank_lines_and_comments_are_nothing() {
+        for text in ["", "  ", "# make 1 at 0", "\t#", "\n", "\r\n"] {
+            assert_eq!(Reader::default().line(text), Ok(None));
+        }
+    }
+
+    #[test]
+    fn errors_say_what_is_wrong() {
+        let cases = [
+            ("makes 1 at 0", "'makes' is no call"),
+            ("make", "the profile is missing"),
+            ("make x at 0", "'x' is no number for the profile"),
+            (
+                "make 256 at 0",
+                "the profile is too large for a record: at most 255",
+            ),
+            ("make 1", "'at' and its stamp are missing"),
+            ("make 1 on 0", "'on' where 'at' is due"),
+            ("make 1 at", "the stamp is missing"),
+            ("make 1 at 4294967296", "the stamp is too large"),
+            (
+                "make 1 at 99999999999999999999999",
+                "the stamp is too large",
+            ),
+            ("make 1 at 0 0", "'0' is one word too many"),
+            ("make 1 at +5", "'+5' needs a stamp before it"),
+            ("make 1 at 5h", "'5h' is no number for the stamp"),
+            ("poll 5", "'5' where 'at' is due"),
+            (
+                "offer 7 priority 1 ontime 1 at 0",
+                "'lifetime' and its number are missing",
+            ),
+            ("offer 7 priority 1 priority 1", "'priority' is there twice"),
+            ("offer 7 size 9", "'size' is out of place"),
+            (
+                "offer 7 priority 0 ontime 65536 lifetime 1 at 0",
+                "the on-time is too large",
+            ),
+            (
+                "offer -7 priority 0 ontime 1 lifetime 1 at 0",
+                "'-7' is no number for the identifier",
+            ),
+            ("raw 00 11", "a raw record has 16 bytes, here are 2"),
+            ("tail", "a tail has 1 to 15 bytes, here are 0"),
+            ("tail 0x", "'0x' is no byte"),
+            ("tail +1", "'+1' is no byte"),
+        ];
+        for (text, wanted) in cases {
+            let said = Reader::default().line(text).unwrap_err();
+            assert!(said.contains(wanted), "{text}: {said}");
+        }
+    }
+
+    #[test]
+    fn nothing_comes_after_a_tail() {
+        let mut reader = Reader::default();
+        assert_eq!(reader.line("tail 03 00"), Ok(Some(vec![3, 0])));
+        assert_eq!(reader.line("# still good"), Ok(None));
+        assert!(reader.line("poll at 0").is_err());
+    }
+
+    #[test]
+    fn any_record_goes_to_text_and_back() {
+        let mut rng = Rng::new(16);
+        for round in 0..20_000 {
+            let mut bytes = [0; RECORD_BYTES];
+            for byte in &mut bytes {
+                *byte = rng.below(256) as u8;
+            }
+            bytes[0] = rng.below(6) as u8;
+            let mut record = Record::from_bytes(&bytes);
+            if round % 2 == 0 && record.kind != 2 {
+                record = Record {
+                    kind: record.kind,
+                    stamp: record.stamp,
+                    ..Record::default()
+                };
+            }
+            assert_eq!(record_of(&line(&record)), record);
+        }
+    }
+}

@@ -1,0 +1,222 @@
+//! `curlew show`: a log as a table, or in the plain form.
+
+use std::io::{self, BufWriter, StdoutLock, Write};
+
+use reference::log::Record;
+use reference::rules;
+use reference::state::State;
+
+use crate::fault::Fault;
+use crate::follow::{follow, refusal_name, Hearer, Row, Run};
+use crate::plain;
+use crate::progress::Progress;
+use crate::stream::{whole, Next, Records, Said};
+use crate::text::{count, grouped, percent, seconds, span};
+
+/// What `curlew show` was asked for.
+pub struct ShowWish {
+    /// The log.
+    pub log: String,
+    /// The program's output, if there is one.
+    pub answers: Option<String>,
+    /// The first record to show.
+    pub from: u64,
+    /// How many to show.
+    pub first: Option<u64>,
+    /// Whether to leave out what moves no packet.
+    pub brief: bool,
+    /// Whether to show the plain form.
+    pub plain: bool,
+}
+
+/// Shows a log.
+pub fn show(wish: &ShowWish) -> Result<(), Fault> {
+    if wish.plain {
+        return show_plain(wish);
+    }
+    let output = BufWriter::new(io::stdout().lock());
+    let mut table = Table {
+        wish,
+        output,
+        wrong: false,
+        shown: 0,
+        more: 0,
+    };
+    table.heading()?;
+    let whole = follow("show", &wish.log, wish.answers.as_deref(), &mut table)?;
+    if table.more > 0 {
+        let more = count(table.more, "more line");
+        writeln!(table.output, "    ..  {more}")?;
+    } else if whole.left_over.is_empty() {
+        writeln!(table.output, "   END")?;
+    } else {
+        let bytes = plain::hex(&whole.left_over);
+        writeln!(table.output, "  TORN  left over: {bytes}")?;
+    }
+    table.output.flush()?;
+    if table.wrong {
+        return Err(Fault::NotKept);
+    }
+    Ok(())
+}
+
+/// The log in the plain form.
+fn show_plain(wish: &ShowWish) -> Result<(), Fault> {
+    let mut records = Records::open(&wish.log)?;
+    let mut output = BufWriter::new(io::stdout().lock());
+    let mut progress = Progress::new("show", whole(&wish.log));
+    let most = wish.first.unwrap_or(u64::MAX);
+    let shows = |number: u64| number >= wish.from && number - wish.from < most;
+    for number in 1.. {
+        match records.next()? {
+            Next::Record(record) if shows(number) => {
+                writeln!(output, "{}", plain::line(&record))?;
+            }
+            Next::Record(_) => {}
+            Next::End(left_over) => {
+                if !left_over.is_empty() && shows(number) {
+                    writeln!(output, "tail {}", plain::hex(&left_over))?;
+                }
+                break;
+            }
+        }
+        progress.at(number);
+    }
+    Ok(output.flush()?)
+}
+
+/// The table on its way to standard output.
+struct Table<'a> {
+    wish: &'a ShowWish,
+    output: BufWriter<StdoutLock<'a>>,
+    wrong: bool,
+    shown: u64,
+    more: u64,
+}
+
+impl Table<'_> {
+    fn heading(&mut self) -> Result<(), Fault> {
+        let of = match &self.wish.answers {
+            Some(answers) => format!("answers of {answers}"),
+            None => "answers of the second program".to_string(),
+        };
+        let out = &mut self.output;
+        writeln!(out, "{}, {of}", self.wish.log)?;
+        writeln!(
+            out,
+            "{:>6}  {:>13}  {:<43}  {:<22}  {:^9}  gate",
+            "", "time", "", "", "waiting"
+        )?;
+        writeln!(
+            out,
+            "{:>6}  {:>13}  {:<43}  {:<22}  {:^9}  level or duty, wait",
+            "record", "(s)", "call", "answer", "0 1 2 3"
+        )?;
+        Ok(())
+    }
+}
+
+impl Hearer for Table<'_> {
+    fn row(&mut self, row: &Row) -> Result<(), Fault> {
+        self.wrong |= row.wrong.is_some();
+        let idle = self.wish.brief && moves_nothing(row);
+        if row.wrong.is_none() && (idle || row.number < self.wish.from) {
+            return Ok(());
+        }
+        if row.wrong.is_none() && self.wish.first.is_some_and(|most| self.shown >= most) {
+            self.more += 1;
+            return Ok(());
+        }
+        self.shown += 1;
+        let (mut time, mut waiting) = (String::new(), String::new());
+        if let Some(run) = row.run {
+            time = seconds(run.book.time());
+            waiting = match run.wrong {
+                None => lengths(run),
+                Some(_) => "? ? ? ?".to_string(),
+            };
+        }
+        let line = format!(
+            "{:>6}  {:>13}  {:<43}  {:<22}  {:^9}  {}",
+            grouped(row.number),
+            time,
+            call(&row.record),
+            answer(row.said),
+            waiting,
+            control(row.state)
+        );
+        let line = line.trim_end();
+        match row.wrong {
+            None => writeln!(self.output, "{line}")?,
+            Some(text) => writeln!(self.output, "!{}\n        {text}", &line[1..])?,
+        }
+        Ok(())
+    }
+
+    fn run_over(&mut self, _run: &Run) -> Result<(), Fault> {
+        Ok(())
+    }
+}
+
+/// A sample that was taken, and a poll that sent nothing.
+fn moves_nothing(row: &Row) -> bool {
+    let sampled = row.record.kind == 1 && row.said == Said::Taken;
+    sampled || matches!(row.said, Said::Closed(_) | Said::Idle)
+}
+
+/// How many wait in each queue.
+fn lengths(run: &Run) -> String {
+    let lengths: Vec<String> = (run.book.columns().iter())
+        .map(|column| column.len().to_string())
+        .collect();
+    lengths.join(" ")
+}
+
+/// A call in a few words.
+fn call(record: &Record) -> String {
+    let Record {
+        priority,
+        ontime,
+        lifetime,
+        id,
+        stamp,
+        ..
+    } = record;
+    match record.kind {
+        0 => format!("make, profile {priority}, stamp {}", grouped(*stamp)),
+        1 => format!("sample, {} of 1,000 busy", grouped(*id)),
+        2 => {
+            let lifetime = span(u64::from(*lifetime));
+            format!("offer {id}: priority {priority}, {ontime} µs, lives {lifetime}")
+        }
+        3 => "poll".to_string(),
+        kind => format!("no call: kind {kind}"),
+    }
+}
+
+/// An answer, its number explained.
+fn answer(said: Said) -> String {
+    match said {
+        Said::Refused(number) => format!("REFUSED {number} {}", refusal_name(number)),
+        said => said.line(),
+    }
+}
+
+/// The level or the duty, and the wait that it asks for after an admission.
+fn control(state: &State) -> String {
+    if !state.live {
+        return "no gate".to_string();
+    }
+    let wait = rules::wait(state.profile, state.level, state.duty, state.ontime);
+    let wait = wait.map_or(String::new(), |wait| span(u64::from(wait)));
+    if state.profile == 3 {
+        let duty = percent(state.duty, 1_000_000_000, 3);
+        if state.any {
+            format!("duty {duty}, {wait}")
+        } else {
+            format!("duty {duty}")
+        }
+    } else {
+        format!("level {}, {wait}", state.level)
+    }
+}

@@ -1,0 +1,314 @@
+//! How near a run came to what is guaranteed, seen from its book.
+
+use std::collections::VecDeque;
+
+use reference::book::{Book, Entry, CEILING_BASE, CEILING_SLOPE, FLOOR};
+use reference::gate::Call;
+use reference::state::Packet;
+
+use crate::text::span;
+
+/// The sliding second, in µs.
+pub const SECOND: u64 = 1_000_000;
+
+/// A window of the run, and the air time admitted in it.
+#[derive(Clone, Copy, Debug, PartialEq, Eq)]
+pub struct Window {
+    /// Its start, at an admission.
+    pub from: u64,
+    /// Its end, at an admission.
+    pub to: u64,
+    /// The on-times admitted, both ends counted, in µs.
+    pub air: u64,
+}
+
+impl Window {
+    /// 3 × W + 400,000 − 100 × air time.
+    pub fn slack(&self) -> i128 {
+        let width = i128::from(self.to - self.from);
+        CEILING_SLOPE * width + CEILING_BASE - 100 * i128::from(self.air)
+    }
+
+    /// The air time that the ceiling allows in it, in whole µs.
+    pub fn allowed(&self) -> u64 {
+        let width = i128::from(self.to - self.from);
+        ((CEILING_SLOPE * width + CEILING_BASE) / 100) as u64 // widths are below 10^15
+    }
+}
+
+/// How long a packet of priority 0 waited.
+#[derive(Clone, Copy, Debug, PartialEq, Eq)]
+pub struct Wait {
+    /// Its identifier.
+    pub id: u32,
+    /// k: how many were before it.
+    pub before: u64,
+    /// How long it waited, in µs.
+    pub waited: u64,
+    /// The longest time without a poll while it waited.
+    pub apart: u64,
+}
+
+impl Wait {
+    /// The longest that it may wait: (k + 1) × (quiet + p).
+    pub fn bound(&self) -> u64 {
+        (self.before + 1) * (FLOOR + self.apart)
+    }
+}
+
+/// A packet of priority 0 in the book, and the longest time without a poll.
+#[derive(Clone, Copy, Debug)]
+struct Followed {
+    entry: Entry,
+    apart: u64,
+}
+
+/// What was seen of a run.
+#[derive(Clone, Debug, Default)]
+pub struct Watch {
+    /// Accepted samples.
+    pub samples: u64,
+    /// Accepted polls.
+    pub polls: u64,
+    /// Refusals, by number; the last place has those of no known number.
+    pub refusals: [u64; 12],
+    /// The window whose slack is the smallest.
+    pub closest: Option<Window>,
+    /// The window that ends at the last admission and has the smallest slack.
+    tightest: Option<Window>,
+    /// The admissions of the last second, and their air time.
+    second: VecDeque<(u64, u32)>,
+    second_air: u64,
+    /// The most air time in any second, and when that second ended.
+    pub fullest_second: Option<(u64, u64)>,
+    /// The longest time that something waited before anything was sent, and
+    /// when that was.
+    pub longest_hold: Option<(u64, u64)>,
+    /// Since when something has waited and nothing was sent.
+    held_since: Option<u64>,
+    /// The packet of priority 0 whose wait was the nearest to its bound.
+    pub nearest_wait: Option<Wait>,
+    /// How many packets of priority 0 were sent, and how many expired.
+    pub zero_sent: u64,
+    /// See `zero_sent`.
+    pub zero_expired: u64,
+    zero: VecDeque<Followed>,
+    last_poll: Option<u64>,
+}
+
+impl Watch {
+    /// A call was refused with this number.
+    pub fn refused(&mut self, number: u32) {
+        let last = self.refusals.len() - 1;
+        self.refusals[(number as usize).min(last)] += 1;
+    }
+
+    /// A call was accepted and the book was fed it.
+    pub fn accepted(
+        &mut self,
+        call: &Call,
+        sent: Option<Packet>,
+        book: &Book,
+    ) -> Result<(), String> {
+        let now = book.time();
+        self.forget_before(now);
+        match call {
+            Call::SampleCount { .. } | Call::SampleWords { .. } => {
+                self.samples += 1;
+                return Ok(());
+            }
+            Call::Offer { .. } => {}
+            Call::Poll { .. } => self.polls += 1,
+        }
+        if let Some(packet) = sent {
+            self.admitted(now, packet.ontime);
+        }
+        self.see_hold(now, sent.is_some(), book);
+        let delivered = self.see_priority_0(now, sent, book);
+        if let Call::Poll { .. } = call {
+            self.last_poll = Some(now);
+        }
+        delivered
+    }
+
+    /// Admissions of more than a second ago are out of the sliding second.
+    fn forget_before(&mut self, now: u64) {
+        while let Some((at, ontime)) = self.second.front() {
+            if now - at <= SECOND {
+                break;
+            }
+            self.second_air -= u64::from(*ontime);
+            self.second.pop_front();
+        }
+    }
+
+    /// The tightest window that would end at an admission now: the admission
+    /// alone, or the tightest that ended at the one before, made longer.
+    pub fn tightest_with(&self, now: u64, ontime: u32) -> Window {
+        let air = u64::from(ontime);
+        let alone = Window {
+            from: now,
+            to: now,
+            air,
+        };
+        let longer = self.tightest.map(|before| Window {
+            from: before.from,
+            to: now,
+            air: before.air + air,
+        });
+        longer
+            .filter(|longer| longer.slack() < alone.slack())
+            .unwrap_or(alone)
+    }
+
+    /// An admission now.
+    fn admitted(&mut self, now: u64, ontime: u32) {
+        self.second.push_back((now, ontime));
+        self.second_air += u64::from(ontime);
+        if self
+            .fullest_second
+            .is_none_or(|(most, _)| self.second_air > most)
+        {
+            self.fullest_second = Some((self.second_air, now));
+        }
+        let tightest = self.tightest_with(now, ontime);
+        self.tightest = Some(tightest);
+        if self
+            .closest
+            .is_none_or(|closest| tightest.slack() < closest.slack())
+        {
+            self.closest = Some(tightest);
+        }
+    }
+
+    /// How long something waits before anything is sent.
+    fn see_hold(&mut self, now: u64, sent: bool, book: &Book) {
+        let empty = book.columns().iter().all(VecDeque::is_empty);
+        if sent {
+            let since = self.held_since.take().unwrap_or(now);
+            if self.longest_hold.is_none_or(|(hold, _)| now - since > hold) {
+                self.longest_hold = Some((now - since, now));
+            }
+        }
+        if empty {
+            self.held_since = None;
+        } else if self.held_since.is_none() {
+            self.held_since = Some(now);
+        }
+    }
+
+    /// Follows the packets of priority 0: who was sent, who expired, and that
+    /// none expired which had lifetime enough to be sent.
+    fn see_priority_0(
+        &mut self,
+        now: u64,
+        sent: Option<Packet>,
+        book: &Book,
+    ) -> Result<(), String> {
+        let mut left = book.columns()[0].iter().peekable();
+        let mut sent = sent.filter(|packet| packet.priority == 0);
+        let followed = std::mem::take(&mut self.zero);
+        for mut packet in followed {
+            let arrival = packet.entry.packet.arrival;
+            let since = self.last_poll.map_or(arrival, |poll| poll.max(arrival));
+            packet.apart = packet.apart.max(now - since);
+            if left.next_if(|entry| **entry == packet.entry).is_some() {
+                self.zero.push_back(packet);
+            } else if sent.take_if(|sent| *sent == packet.entry.packet).is_some() {
+                self.zero_sent += 1;
+                self.waited(packet.wait(now));
+            } else {
+                self.zero_expired += 1;
+                packet.had_too_little(now)?;
+            }
+        }
+        for entry in left {
+            self.zero.push_back(Followed {
+                entry: *entry,
+                apart: 0,
+            });
+        }
+        Ok(())
+    }
+
+    /// A packet of priority 0 was sent after this wait.
+    fn waited(&mut self, wait: Wait) {
+        let spare = |wait: &Wait| i128::from(wait.bound()) - i128::from(wait.waited);
+        let nearer = self
+            .nearest_wait
+            .is_none_or(|nearest| spare(&wait) < spare(&nearest));
+        if nearer {
+            self.nearest_wait = Some(wait);
+        }
+    }
+}
+
+impl Followed {
+    fn wait(&self, now: u64) -> Wait {
+        Wait {
+            id: self.entry.packet.id,
+            before: self.entry.above,
+            waited: now - self.entry.packet.arrival,
+            apart: self.apart,
+        }
+    }
+
+    /// An expired packet had a lifetime of at most its bound.
+    fn had_too_little(&self, now: u64) -> Result<(), String> {
+        let wait = self.wait(now);
+        let lifetime = u64::from(self.entry.packet.lifetime);
+        if lifetime <= wait.bound() {
+            return Ok(());
+        }
+        Err(format!(
+            "delivery: packet {} of priority 0 expired after {}, with {} before it and polls at most {} apart",
+            wait.id,
+            span(lifetime),
+            wait.before,
+            span(wait.apart)
+        ))
+    }
+}
+
+#[cfg(test)]
+mod tests {
+    use super::*;
+
+    /// Where floor and turn are kept delivery is too, so no list of answers
+    /// reaches this fault first; the check itself is tried by hand.
+    #[test]
+    fn an_expiry_that_should_have_been_a_delivery() {
+        let packet = |lifetime: u32| Packet {
+            lifetime,
+            ..Packet::default()
+        };
+        let followed = |lifetime: u32, above: u64, apart: u64| Followed {
+            entry: Entry {
+                packet: packet(lifetime),
+                above,
+                admissions_before: 0,
+            },
+            apart,
+        };
+        let bound = |above: u64, apart: u64| followed(1, above, apart).wait(0).bound();
+        assert_eq!(bound(0, 50_000), 1_050_000);
+        assert_eq!(bound(2, 30_000), 3_090_000);
+        let lived = |lifetime: u32| followed(lifetime, 2, 30_000).had_too_little(9_000_000);
+        assert_eq!(lived(3_090_000), Ok(()));
+        let said = lived(3_090_001).unwrap_err();
+        assert!(
+            said.starts_with("delivery: packet 0 of priority 0 expired"),
+            "{said}"
+        );
+    }
+
+    #[test]
+    fn a_window_allows_three_per_cent_and_one_longest_packet() {
+        let window = Window {
+            from: 7,
+            to: 1_000_007,
+            air: 34_000,
+        };
+        assert_eq!((window.allowed(), window.slack()), (34_000, 0));
+    }
+}

@@ -1,0 +1,304 @@
+//! `curlew check`: it says KEPT of good answers, and finds bad ones.
+
+use reference::log::Record;
+use reference::rng::Rng;
+
+use crate::help::{answers, curlew, curlew_fed, example, example_bytes, log_of, Done, Folder};
+
+/// Checks a log with these answers.
+fn check(log: &[u8], out: &str) -> Done {
+    let folder = Folder::new();
+    let log = folder.file("a.log", log);
+    let out = folder.file("a.out", out);
+    curlew(&["check", &log, &out])
+}
+
+/// The sample with one of its lines changed.
+fn sample_with(line: usize, text: &str) -> Done {
+    let out = String::from_utf8(example_bytes("sample", "out")).unwrap();
+    let mut lines: Vec<&str> = out.lines().collect();
+    lines[line - 1] = text;
+    check(&example_bytes("sample", "log"), &(lines.join("\n") + "\n"))
+}
+
+#[test]
+fn the_sample_is_kept() {
+    let text = sample_with(1, "READY").good().text();
+    for words in [
+        "Run 1: profile 2, 0.050200 s, records 1 to 8",
+        "accepted: 0 samples, 2 offers, 4 polls; refused: 1 CLOCK-BACK",
+        "2 taken: 2 sent, 0 expired, 0 waiting at the end",
+        "KEPT. Most air time in any second: 800 µs of 34 ms, up to 0.050200 s.",
+        "Closest call: one packet at 0.000200 s, with 400 µs of the 4,000 µs allowed.",
+        "KEPT. Latest CLOSED: 800 µs after an admission; from 1 s on a poll sends.",
+        "none went: 50 ms, up to the SENT at 0.050200 s.",
+        "8 records in 1 run, answers fit.",
+        "Verdict: KEPT. Ceiling and floor held throughout.",
+    ] {
+        assert!(text.contains(words), "no '{words}' in: {text}");
+    }
+}
+
+#[test]
+fn one_wrong_answer_is_found() {
+    let cases = [
+        (1, "TAKEN", "TAKEN, but there is no gate"),
+        (1, "REFUSED 1", "the answer is REFUSED 1, the right one is READY"),
+        (2, "IDLE", "record 2 (offer 7 priority 2 ontime 400 lifetime 1000000 at 4294967100): IDLE is no answer"),
+        (2, "REFUSED 8", "the answer is REFUSED 8, the right one is TAKEN"),
+        (4, "SENT 7", "SENT 7, but packet 8 of priority 1 is first in turn"),
+        (4, "IDLE", "record 4 (poll at 4294967200): IDLE, but a packet waits"),
+        (4, "CLOSED 5", "floor: CLOSED before any admission"),
+        (4, "TAKEN", "TAKEN is no answer to this call"),
+        (5, "CLOSED 49201", "the answer is CLOSED 49201, the right one is CLOSED 49200"),
+        (5, "SENT 7", "record 5 (poll at 704): the answer is SENT 7, the right one is CLOSED 49200"),
+        (5, "IDLE", "IDLE, but a packet waits"),
+        (6, "CLOSED 1", "the answer is CLOSED 1, the right one is SENT 7"),
+        (7, "IDLE", "record 7 (poll at 49903)"),
+        (8, "SENT 7", "SENT 7, but nothing waits"),
+        (8, "CLOSED 9", "CLOSED, but nothing waits"),
+        (8, "REFUSED 3", "the answer is REFUSED 3, the right one is IDLE"),
+    ];
+    for (line, text, words) in cases {
+        let done = sample_with(line, text).failed(1, words);
+        let said = done.text();
+        assert!(said.contains("Verdict: NOT KEPT"), "{text}: {said}");
+    }
+}
+
+#[test]
+fn answers_that_do_not_fit_the_log() {
+    let log = example_bytes("sample", "log");
+    let good = String::from_utf8(example_bytes("sample", "out")).unwrap();
+    let less = |lines: usize| {
+        let kept: Vec<&str> = good.lines().take(lines).collect();
+        kept.join("\n") + "\n"
+    };
+    let cases = [
+        (
+            String::new(),
+            "line 1: the answers end, but the log has a record 1",
+        ),
+        (
+            less(5),
+            "line 6: the answers end, but the log has a record 6",
+        ),
+        (
+            less(8),
+            "line 9: there is no line END: the log ends after 8 records",
+        ),
+        (
+            less(5) + "END\n",
+            "line 6: END comes too early: the log has a record 6",
+        ),
+        (less(8) + "TORN\n", "line 9: TORN where END is due"),
+        (
+            less(8) + "IDLE\nEND\n",
+            "line 9: IDLE where END is due: the log ends after 8 records",
+        ),
+        (good.clone() + "\n", "line 10: there is more after END"),
+        (
+            good.replace("SENT 8", "SENT 08"),
+            "line 4: 'SENT 08' is no answer",
+        ),
+        (
+            good.replace("TAKEN", "TAKEN "),
+            "line 2: 'TAKEN ' is no answer",
+        ),
+        (good.replace("IDLE", "idle"), "line 8: 'idle' is no answer"),
+        (
+            good.replace('\n', "\r\n"),
+            "line 1: 'READY\\r' is no answer",
+        ),
+        (
+            good.trim_end().to_string(),
+            "line 9: 'END' does not end in a newline",
+        ),
+        ("x".repeat(100_000), "line 1: 'xxxx"),
+        ("\u{FFFD}\n".to_string(), "is no answer"),
+    ];
+    for (out, words) in cases {
+        check(&log, &out).failed(2, words);
+    }
+    check(&log[..120], &good).failed(
+        2,
+        "line 8: IDLE where TORN is due: the log ends with 8 bytes after 7 records",
+    );
+}
+
+#[test]
+fn damaged_logs_do_not_fit_the_answers() {
+    let log = example_bytes("jam", "log");
+    let out = String::from_utf8(example_bytes("jam", "out")).unwrap();
+    check(&log[..log.len() - 16], &out).failed(2, "where END is due");
+    check(&log[..log.len() - 1], &out).failed(2, "where TORN is due");
+    let mut longer = log.clone();
+    longer.extend([3; 16]);
+    check(&longer, &out).failed(2, "END comes too early: the log has a record 764");
+    check(&log[16..], &out).failed(2, "where END is due: the log ends after 762 records");
+    // Record 96 is the offer of the first warning: its kind, priority, identifier and stamp.
+    for at in [0, 1, 8, 13] {
+        let mut bent = log.clone();
+        bent[16 * 95 + at] ^= 0x40;
+        check(&bent, &out).failed(1, "Verdict: NOT KEPT");
+    }
+}
+
+/// SENT before its time: where on-times are long the ceiling is passed.
+#[test]
+fn the_ceiling_is_watched() {
+    let text = "make 3 at 0\n\
+        offer 1 priority 0 ontime 4000 lifetime 1s at +0\n\
+        offer 2 priority 0 ontime 4000 lifetime 1s at +0\n\
+        poll at +0\npoll at +1000\n";
+    let out = "READY\nTAKEN\nTAKEN\nSENT 1\nSENT 2\nEND\n";
+    let words = "record 5 (poll at 1000): ceiling: 8,000 µs of air time in 1,000 µs, where 4,030 µs is allowed";
+    check(&log_of(text), out).failed(1, words);
+}
+
+#[test]
+fn the_floor_is_watched() {
+    let text = "make 1 at 0\n\
+        offer 1 priority 0 ontime 9 lifetime 60s at +0\n\
+        offer 2 priority 0 ontime 9 lifetime 60s at +0\n\
+        poll at +0\npoll at +999999\npoll at +1\n";
+    let log = log_of(text);
+    let out = "READY\nTAKEN\nTAKEN\nSENT 1\nSENT 2\nIDLE\nEND\n";
+    assert_eq!(answers(&log), out);
+    check(&log, out).good();
+    let out = "READY\nTAKEN\nTAKEN\nSENT 1\nCLOSED 1\nCLOSED 1\nEND\n";
+    check(&log, out).failed(
+        1,
+        "record 5 (poll at 999999): the answer is CLOSED 1, the right one is SENT 2",
+    );
+    // At level 4 the first CLOSED is right, and the second breaks the floor.
+    let loud = "sample 1000 at +0\n".repeat(4);
+    let log = log_of(&text.replace("poll at +0\n", &format!("{loud}poll at +0\n")));
+    let out = "READY\nTAKEN\nTAKEN\nTAKEN\nTAKEN\nTAKEN\nTAKEN\nSENT 1\nCLOSED 1\nCLOSED 1\nEND\n";
+    check(&log, out).failed(
+        1,
+        "record 10 (poll at 1000000): floor: CLOSED 1000000 µs after the last admission",
+    );
+}
+
+#[test]
+fn several_runs_each_have_a_verdict() {
+    let text = "poll at 0\nmake 1 at 5\npoll at +1\nmake 9 at 7\npoll at 8\nmake 2 at 9\n\
+        offer 4 priority 0 ontime 5 lifetime 9 at +0\npoll at +1\n";
+    let log = log_of(text);
+    let out = answers(&log);
+    let told = check(&log, &out).good().text();
+    assert!(
+        told.contains("Run 1: profile 1, 0.000001 s, records 2 to 3"),
+        "{told}"
+    );
+    assert!(
+        told.contains("Run 2: profile 2, 0.000001 s, records 6 to 8"),
+        "{told}"
+    );
+    assert!(told.contains("8 records in 2 runs"), "{told}");
+    // A fault in one leaves the other as it is, and one outside is found too.
+    let done = check(&log, &out.replace("SENT 4", "IDLE"));
+    let told = done.failed(1, "Verdict: NOT KEPT in 1 of 2 runs.").text();
+    assert!(
+        told.contains("Run 1: profile 1") && told.contains("Ceiling    KEPT"),
+        "{told}"
+    );
+    let done = check(&log, &out.replacen("REFUSED 9", "REFUSED 3", 1));
+    done.failed(
+        1,
+        "Outside of all runs, NOT KEPT: record 1 (poll at 0): the answer is REFUSED 3",
+    );
+    let done = check(
+        &log,
+        &out.replace("REFUSED 1\nREFUSED 9", "REFUSED 1\nIDLE"),
+    );
+    done.failed(1, "record 5 (poll at 8): IDLE, but there is no gate");
+}
+
+#[test]
+fn no_run_and_no_records() {
+    check(b"", "END\n").good();
+    let told = check(&[3; 16], "REFUSED 9\nEND\n").good().text();
+    assert!(told.contains("there was no run to look at"), "{told}");
+    let told = check(&[3; 5], "TORN\n").good().text();
+    assert!(told.contains("a torn tail of 5 bytes"), "{told}");
+}
+
+#[test]
+fn many_runs_are_not_told_one_by_one() {
+    let log = log_of(&"make 1 at 5\n".repeat(50));
+    let told = check(&log, &answers(&log)).good().text();
+    assert!(told.contains("30 more runs KEPT"), "{told}");
+    assert_eq!(told.matches("Run ").count(), 20, "{told}");
+}
+
+/// One of the inputs may come as a stream.
+#[test]
+fn the_answers_may_come_on_standard_input() {
+    let out = example_bytes("jam", "out");
+    curlew_fed(&["check", &example("jam", "log"), "-"], &out).good();
+}
+
+/// Random runs: the second program's answers are kept, and a line changed for
+/// another that this record could get is found.
+#[test]
+fn random_runs_and_random_changes() {
+    let mut rng = Rng::new(2_026);
+    for _ in 0..60 {
+        let log = random_log(&mut rng, 400);
+        let out = answers(&log);
+        check(&log, &out).good();
+        let mut lines: Vec<String> = out.lines().map(str::to_string).collect();
+        let at = rng.below(lines.len() as u64 - 1) as usize;
+        let other = match log[16 * at] {
+            0 => "REFUSED 1".to_string(),
+            1 | 2 if lines[at] == "TAKEN" => format!("REFUSED {}", 1 + rng.below(10)),
+            1 | 2 => "TAKEN".to_string(),
+            _ => {
+                let id = rng.below(400);
+                let left = 1 + rng.below(1_000_000);
+                let choices = [
+                    "IDLE".to_string(),
+                    format!("SENT {id}"),
+                    format!("CLOSED {left}"),
+                ];
+                choices[rng.below(3) as usize].clone()
+            }
+        };
+        if lines[at] == other {
+            continue;
+        }
+        lines[at] = other;
+        let bent = lines.join("\n") + "\n";
+        check(&log, &bent).failed(1, &format!("record {} (", at + 1));
+    }
+}
+
+/// A log of good calls, most of them accepted.
+fn random_log(rng: &mut Rng, records: u32) -> Vec<u8> {
+    let profile = 1 + rng.below(3) as u8;
+    let most = [1_000, 500, 4_000][usize::from(profile) - 1];
+    let mut stamp = rng.next_u32();
+    let mut bytes = Vec::new();
+    let make = Record {
+        kind: 0,
+        priority: profile,
+        stamp,
+        ..Record::default()
+    };
+    bytes.extend(make.to_bytes());
+    for id in 1..records {
+        stamp = stamp.wrapping_add(rng.below(60_000) as u32);
+        let record = Record {
+            kind: rng.pick(&[1, 2, 2, 3, 3, 3]),
+            priority: rng.below(4) as u8,
+            ontime: 1 + rng.below(most) as u16,
+            lifetime: 1 + rng.below(3_000_000) as u32,
+            id,
+            stamp,
+        };
+        bytes.extend(record.to_bytes());
+    }
+    bytes
+}

@@ -1,0 +1,88 @@
+//! The example logs: text, bytes and output belong together.
+
+use std::io::Write;
+use std::process::{Command, Stdio};
+
+use crate::help::{answers, curlew, example, example_bytes, EXAMPLES};
+
+#[test]
+fn the_text_gives_the_log() {
+    for name in EXAMPLES {
+        let written = curlew(&["write", &example(name, "txt")]).good();
+        assert_eq!(written.out, example_bytes(name, "log"), "{name}");
+    }
+}
+
+#[test]
+fn the_second_program_gives_the_output() {
+    for name in EXAMPLES {
+        let said = answers(&example_bytes(name, "log"));
+        let kept = String::from_utf8(example_bytes(name, "out")).unwrap();
+        assert_eq!(said, kept, "{name}");
+    }
+}
+
+/// The proved program, if its path is in PRESSCURLEW_REPLAY.
+#[test]
+fn the_proved_program_gives_the_output() {
+    let Some(program) = std::env::var_os("PRESSCURLEW_REPLAY") else {
+        eprintln!("PRESSCURLEW_REPLAY is not set: only the second program was looked at");
+        return;
+    };
+    for name in EXAMPLES {
+        let mut child = Command::new(&program)
+            .stdin(Stdio::piped())
+            .stdout(Stdio::piped())
+            .spawn()
+            .unwrap_or_else(|error| panic!("{program:?}: {error}"));
+        let mut stdin = child.stdin.take().unwrap();
+        let log = example_bytes(name, "log");
+        let feeder = std::thread::spawn(move || stdin.write_all(&log).unwrap());
+        let output = child.wait_with_output().unwrap();
+        feeder.join().unwrap();
+        assert!(output.status.success(), "{name}: {}", output.status);
+        let said = String::from_utf8(output.stdout).unwrap();
+        let kept = String::from_utf8(example_bytes(name, "out")).unwrap();
+        assert_eq!(said, kept, "{name}");
+    }
+}
+
+#[test]
+fn each_keeps_its_guarantees() {
+    for name in EXAMPLES {
+        let check = curlew(&["check", &example(name, "log"), &example(name, "out")]);
+        let text = check.good().text();
+        assert!(text.contains("Verdict: KEPT."), "{name}: {text}");
+        assert!(!text.contains("NOT KEPT"), "{name}: {text}");
+    }
+}
+
+#[test]
+fn there_are_no_other_logs() {
+    let folder = example("", "");
+    let folder = folder.trim_end_matches("/.");
+    let mut names: Vec<String> = std::fs::read_dir(folder)
+        .unwrap()
+        .map(|entry| entry.unwrap().file_name().into_string().unwrap())
+        .collect();
+    names.sort();
+    let mut wanted: Vec<String> = EXAMPLES
+        .iter()
+        .flat_map(|name| ["log", "out", "txt"].map(|ending| format!("{name}.{ending}")))
+        .collect();
+    wanted.push("README.md".to_string());
+    wanted.sort();
+    assert_eq!(names, wanted);
+}
+
+/// What the jam is there to show.
+#[test]
+fn in_the_jam_a_warning_goes_each_second() {
+    let check = curlew(&["check", &example("jam", "log"), &example("jam", "out")]);
+    let text = check.good().text();
+    assert!(
+        text.contains("Of priority 0, 13 went and 0 expired."),
+        "{text}"
+    );
+    assert!(text.contains("none went: 1.02 s,"), "{text}");
+}

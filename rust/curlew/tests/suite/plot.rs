@@ -1,0 +1,153 @@
+//! `curlew plot`.
+
+use crate::help::{curlew, example, example_bytes, Folder, EXAMPLES};
+
+/// The picture of an example.
+fn picture(name: &str, more: &[&str]) -> String {
+    let folder = Folder::new();
+    let svg = folder.path("a.svg");
+    let (log, out) = (example(name, "log"), example(name, "out"));
+    let mut words = vec!["plot", &log, &out, "-o", &svg];
+    words.extend(more);
+    curlew(&words).good();
+    std::fs::read_to_string(&svg).unwrap()
+}
+
+/// Every element that is opened is closed, in order.
+fn assert_well_formed(svg: &str) {
+    let mut open = Vec::new();
+    for part in svg.split('<').skip(1) {
+        let tag = part.split('>').next().unwrap();
+        if let Some(name) = tag.strip_prefix('/') {
+            assert_eq!(open.pop(), Some(name));
+        } else if !tag.ends_with('/') {
+            open.push(tag.split(' ').next().unwrap());
+        }
+    }
+    assert!(open.is_empty(), "{open:?}");
+    assert!(
+        !svg.contains("NaN") && !svg.contains("inf"),
+        "a number is none"
+    );
+}
+
+#[test]
+fn each_example_has_a_picture_that_explains_itself() {
+    for name in EXAMPLES {
+        let svg = picture(name, &[]);
+        assert_well_formed(&svg);
+        for words in [
+            &format!("{name}.log"),
+            "Channel load (% of probes busy)",
+            "Packets waiting, by priority",
+            "Packets sent (on-time, ms)",
+            "Time since the last packet went (s)",
+            "Air time in the second before (ms)",
+            "ceiling, guaranteed: never above 34 ms in any second",
+            "floor, guaranteed: a poll on or above this line sends",
+            "running time (",
+            "priority 0 (highest)",
+        ] {
+            assert!(svg.contains(words), "{name}: no '{words}'");
+        }
+        let reactive = svg.contains("Level, and the wait that it asks for");
+        let adaptive = svg.contains("Duty (% of the time that may be on air)");
+        assert!(reactive != adaptive);
+        assert_eq!(adaptive, ["quiet-morning", "damaged-tail"].contains(&name));
+    }
+}
+
+#[test]
+fn each_packet_sent_has_a_stem() {
+    let svg = picture("jam", &[]);
+    let stems: usize = svg
+        .lines()
+        .filter(|line| line.contains(r#"class="stem"#))
+        .map(|line| line.matches('M').count())
+        .sum();
+    assert_eq!(stems, 16);
+    assert!(svg.contains("58 packets taken: 16 sent, 37 expired, 5 waiting at the end"));
+}
+
+#[test]
+fn a_run_and_a_title_may_be_chosen() {
+    let svg = picture("damaged-tail", &["--run", "2", "--title", "A <b> & \"c\""]);
+    assert_well_formed(&svg);
+    assert!(svg.contains("Run 2 · profile 2"));
+    assert!(svg.contains("A &lt;b&gt; &amp; &quot;c&quot;"));
+}
+
+#[test]
+fn a_run_that_is_not_there() {
+    let folder = Folder::new();
+    let svg = folder.path("a.svg");
+    let log = example("jam", "log");
+    curlew(&["plot", "--run", "2", &log, "-o", &svg]).failed(2, "it has 1 run, and no run 2");
+    let empty = folder.file("empty.log", "");
+    curlew(&["plot", &empty, "-o", &svg]).failed(2, "it has no run: no make was ready");
+    assert_eq!(folder.names(), ["empty.log"]);
+}
+
+#[test]
+fn wrong_answers_make_no_picture() {
+    let folder = Folder::new();
+    let svg = folder.path("a.svg");
+    let out = String::from_utf8(example_bytes("jam", "out")).unwrap();
+    let bent = folder.file("bent.out", out.replacen("CLOSED", "SENT 1\nCLOSED", 1));
+    let log = example("jam", "log");
+    curlew(&["plot", &log, &bent, "-o", &svg]).failed(2, "where END is due");
+    let bent = folder.file("bent.out", out.replacen("SENT 101", "IDLE", 1));
+    curlew(&["plot", &log, &bent, "-o", &svg])
+        .failed(2, "IDLE, but a packet waits; 'curlew check' says more");
+    assert_eq!(folder.names(), ["bent.out"]);
+}
+
+#[test]
+fn a_part_of_a_run() {
+    let svg = picture("jam", &["--from", "2s", "--to", "6500ms"]);
+    assert_well_formed(&svg);
+    assert!(svg.contains("drawn: 2 s to 6.5 s"));
+    let stems: usize = svg
+        .lines()
+        .filter(|line| line.contains(r#"class="stem"#))
+        .map(|line| line.matches('M').count())
+        .sum();
+    assert_eq!(stems, 5);
+    assert_well_formed(&picture("clock-wrap", &["--from", "500s", "--to", "600s"]));
+    let folder = Folder::new();
+    let plot = |from: &str, to: &str, words: &str| {
+        let svg = folder.path("a.svg");
+        let log = example("jam", "log");
+        curlew(&["plot", "--from", from, "--to", to, &log, "-o", &svg]).failed(2, words);
+    };
+    plot(
+        "99s",
+        "100s",
+        "nothing to draw from 99 s to 100 s: the run is 15.97 s long",
+    );
+    plot("3s", "3s", "nothing to draw from 3 s to 3 s");
+    plot("soon", "3s", "--from needs a time, as 12s, not 'soon'");
+}
+
+/// The picture of a long run is no larger than that of a short one could be.
+#[test]
+fn a_long_run() {
+    let folder = Folder::new();
+    let mut text = "make 1 at 0\n".to_string();
+    for id in 0..50_000 {
+        let busy = id * 7_919 % 1_001;
+        text += &format!("sample {busy} at +9ms\n");
+        text += &format!(
+            "offer {id} priority {} ontime 900 lifetime 70ms at +9ms\n",
+            id % 4
+        );
+        text += "poll at +9ms\n";
+    }
+    let text = folder.file("long.txt", text);
+    let (log, svg) = (folder.path("long.log"), folder.path("long.svg"));
+    curlew(&["write", &text, "-o", &log]).good();
+    curlew(&["plot", &log, "-o", &svg]).good();
+    let svg = std::fs::read_to_string(&svg).unwrap();
+    assert_well_formed(&svg);
+    assert!(svg.len() < 2_000_000, "{}", svg.len());
+}

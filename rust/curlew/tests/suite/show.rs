@@ -1,0 +1,123 @@
+//! `curlew show`.
+
+use reference::rng::Rng;
+
+use crate::help::{curlew, curlew_fed, example, example_bytes, Folder, EXAMPLES};
+
+#[test]
+fn the_sample() {
+    let shown = curlew(&["show", &example("sample", "log"), &example("sample", "out")]);
+    let shown = shown.good().text();
+    let lines: Vec<String> = shown.lines().skip(3).map(squeezed).collect();
+    let wanted = [
+        "1 0.000000 make, profile 2, stamp 4,294,967,000 READY 0 0 0 0 level 0, 50 ms",
+        "2 0.000100 offer 7: priority 2, 400 µs, lives 1 s TAKEN 0 0 1 0 level 0, 50 ms",
+        "3 0.000100 offer 8: priority 1, 400 µs, lives 60 ms TAKEN 0 1 1 0 level 0, 50 ms",
+        "4 0.000200 poll SENT 8 0 0 1 0 level 0, 50 ms",
+        "5 0.001000 poll CLOSED 49200 0 0 1 0 level 0, 50 ms",
+        "6 0.050200 poll SENT 7 0 0 0 0 level 0, 50 ms",
+        "7 0.050200 poll REFUSED 2 CLOCK-BACK 0 0 0 0 level 0, 50 ms",
+        "8 0.050200 poll IDLE 0 0 0 0 level 0, 50 ms",
+        "END",
+    ];
+    assert_eq!(lines, wanted);
+}
+
+fn squeezed(line: &str) -> String {
+    line.split_whitespace().collect::<Vec<_>>().join(" ")
+}
+
+#[test]
+fn without_answers_the_second_program_gives_them() {
+    for name in EXAMPLES {
+        let (log, out) = (example(name, "log"), example(name, "out"));
+        let with = curlew(&["show", &log, &out]).good().text();
+        let without = curlew(&["show", &log]).good().text();
+        let body = |text: &str| text.split_once('\n').unwrap().1.to_string();
+        assert_eq!(body(&with), body(&without), "{name}");
+        assert!(without.contains("answers of the second program"));
+    }
+}
+
+#[test]
+fn standard_input_may_be_the_log_or_the_answers() {
+    let (log, out) = (example("jam", "log"), example("jam", "out"));
+    let whole = curlew(&["show", &log, &out]).good().text();
+    let body = |text: &str| text.split_once('\n').unwrap().1.to_string();
+    let fed = curlew_fed(&["show", "-", &out], &example_bytes("jam", "log"));
+    assert_eq!(body(&fed.good().text()), body(&whole));
+    let fed = curlew_fed(&["show", &log, "-"], &example_bytes("jam", "out"));
+    assert_eq!(body(&fed.good().text()), body(&whole));
+}
+
+#[test]
+fn a_part_of_it() {
+    let log = example("jam", "log");
+    let whole = curlew(&["show", &log]).good().text();
+    let part = curlew(&["show", "--from", "101", "--first", "5", &log]);
+    let part = part.good().text();
+    let whole: Vec<&str> = whole.lines().collect();
+    let part: Vec<&str> = part.lines().collect();
+    assert_eq!(part[3..8], whole[103..108]);
+    assert_eq!(part[8].trim(), format!("..  {} more lines", 763 - 105));
+    let brief = curlew(&["show", "--brief", &log]).good().text();
+    assert!(brief.contains("SENT 101"));
+    assert!(!brief.contains("CLOSED") && !brief.contains("sample"));
+}
+
+#[test]
+fn a_torn_tail_and_an_empty_log() {
+    let shown = curlew(&["show", &example("damaged-tail", "log")])
+        .good()
+        .text();
+    assert!(
+        shown.ends_with("TORN  left over: 03 00 00 00 00 00 00\n"),
+        "{shown}"
+    );
+    let shown = curlew_fed(&["show", "-"], b"").good().text();
+    assert!(shown.ends_with("END\n"), "{shown}");
+}
+
+#[test]
+fn wrong_answers_are_marked() {
+    let folder = Folder::new();
+    let out = String::from_utf8(example_bytes("sample", "out")).unwrap();
+    let out = folder.file("bad.out", out.replace("CLOSED 49200", "IDLE"));
+    let shown = curlew(&["show", &example("sample", "log"), &out]);
+    let shown = shown.failed(1, "record 5 (poll at 704): IDLE, but a packet waits");
+    let text = shown.text();
+    let marked: Vec<&str> = text.lines().filter(|line| line.starts_with('!')).collect();
+    assert_eq!(marked.len(), 1, "{text}");
+    assert!(marked[0].contains("IDLE"), "{text}");
+}
+
+#[test]
+fn answers_that_do_not_fit_end_it() {
+    let log = example("sample", "log");
+    curlew_fed(&["show", &log, "-"], b"READY\nTAKE\n").failed(2, "line 2: 'TAKE' is no answer");
+}
+
+#[test]
+fn write_then_show_then_write() {
+    for name in EXAMPLES {
+        let plain = curlew(&["show", "--plain", &example(name, "log")]).good();
+        let again = curlew_fed(&["write"], &plain.out).good();
+        assert_eq!(again.out, example_bytes(name, "log"), "{name}");
+    }
+}
+
+#[test]
+fn any_bytes_go_to_text_and_back() {
+    let mut rng = Rng::new(99);
+    for length in [0, 1, 15, 16, 17, 160, 4_095, 50_000] {
+        let bytes: Vec<u8> = (0..length)
+            .map(|at| match at % 16 {
+                0 => rng.below(5) as u8,
+                _ => rng.below(256) as u8,
+            })
+            .collect();
+        let plain = curlew_fed(&["show", "--plain", "-"], &bytes).good();
+        assert_eq!(curlew_fed(&["write"], &plain.out).good().out, bytes);
+        curlew_fed(&["show", "-"], &bytes).good();
+    }
+}

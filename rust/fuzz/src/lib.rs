@@ -1,0 +1,175 @@
+//! The archive beside the reference, on states and calls that libFuzzer makes up.
+//!
+//! The input is read number by number. Most numbers are picked from those where a rule turns; any other can come
+//! too. An input that is used up gives zeros. A difference panics, which libFuzzer reports with the input.
+
+#[path = "../../presscurlew/tests/gate/help.rs"]
+#[allow(dead_code)]
+mod help;
+
+use help::{
+    hold, hold_no_state, raw, Call, EDGE_COUNTS, EDGE_LIFETIMES, EDGE_ONTIMES, EDGE_PRIORITIES,
+    EDGE_STEPS, TIME_END,
+};
+use reference::state::{sound, Packet, State};
+
+/// What is left of the input.
+struct Input<'a> {
+    bytes: &'a [u8],
+}
+
+impl Input<'_> {
+    fn byte(&mut self) -> u8 {
+        let Some((&first, rest)) = self.bytes.split_first() else {
+            return 0;
+        };
+        self.bytes = rest;
+        first
+    }
+
+    fn number(&mut self) -> u32 {
+        u32::from_le_bytes([(); 4].map(|()| self.byte()))
+    }
+
+    /// A number of the list, or any.
+    fn of(&mut self, edges: &[u32]) -> u32 {
+        let index = usize::from(self.byte());
+        if index < 200 {
+            edges[index % edges.len()]
+        } else {
+            self.number()
+        }
+    }
+
+    /// A time not far before `now`, now and then one after it.
+    fn time_before(&mut self, now: u64) -> u64 {
+        let back = self.of(&[0, 1, 59_999, 60_000, 1_000_000, 60_000_000]);
+        match self.byte() {
+            255 => now.wrapping_add(u64::from(back)),
+            _ => now.saturating_sub(u64::from(back)),
+        }
+    }
+
+    fn packet(&mut self, priority: u32, now: u64) -> Packet {
+        Packet {
+            id: u32::from(self.byte()),
+            priority: if self.byte() == 255 {
+                self.number()
+            } else {
+                priority
+            },
+            ontime: self.of(&[1, 400, 500, 501, 1_000, 1_001, 4_000, 4_001, 0]),
+            lifetime: self.of(&[60_000, 1, 1_000_000, 60_000_000, 60_000_001, 0]),
+            arrival: self.time_before(now),
+        }
+    }
+
+    /// Any state, often a sound one.
+    fn state(&mut self) -> State {
+        let profile = self.of(&[1, 2, 3, 0, 4]);
+        let mut state = State::fresh(profile, self.of(&[0, 1, 1 << 31, u32::MAX]));
+        state.time = match self.byte() % 4 {
+            0 => u64::from(self.number()),
+            1 => (TIME_END + 2).saturating_sub(u64::from(self.byte())),
+            2 => TIME_END - u64::from(self.number()),
+            _ => 5_000_000_000,
+        };
+        state.live = self.byte() != 255;
+        state.level = self.of(&[0, 1, 2, 3, 4, 5]);
+        state.duty = self.of(&[600_000, 30_000_000, 10_000_000, 599_999, 30_000_001]);
+        state.smoothed = self.of(&[0, 680_000, 1_000_000, 1_000_001]);
+        state.haskept = self.byte() % 2 == 1;
+        state.kept = self.of(&[0, 400_000, 1_000_000, 1_000_001]);
+        state.any = self.byte() % 2 == 1;
+        if state.any || self.byte() == 255 {
+            state.at = self.time_before(state.time);
+            state.ontime = self.of(&[1, 500, 501, 1_000, 1_001, 4_000, 4_001, 0]);
+        }
+        self.fill_queues(&mut state);
+        state
+    }
+
+    fn fill_queues(&mut self, state: &mut State) {
+        for priority in 0..4 {
+            let queue = &mut state.queues[priority as usize];
+            queue.len = u64::from(self.of(&[0, 1, 2, 3, 4, 5, 6]));
+            for slot in 0..5 {
+                if slot < queue.len || self.byte() == 255 {
+                    queue.slots[slot as usize] = self.packet(priority, state.time);
+                }
+            }
+        }
+    }
+
+    fn words(&mut self) -> Vec<u64> {
+        let length = self.of(&[16, 15, 17, 0]) % 64;
+        let word = |_| u64::from(self.number()) << (self.byte() % 64);
+        (0..length).map(word).collect()
+    }
+
+    fn call(&mut self, last: u32) -> Call {
+        let step = self.of(&EDGE_STEPS) ^ self.of(&[0, 50_000, 60_000, 100_000, 1_000_000]);
+        let stamp = last.wrapping_add(step);
+        match self.byte() % 4 {
+            0 => Call::SampleWords {
+                words: self.words(),
+                stamp,
+            },
+            1 => Call::SampleCount {
+                busy: self.of(&EDGE_COUNTS),
+                stamp,
+            },
+            2 => Call::Offer {
+                id: u32::from(self.byte()),
+                priority: self.of(&EDGE_PRIORITIES),
+                ontime: self.of(&EDGE_ONTIMES),
+                lifetime: self.of(&EDGE_LIFETIMES),
+                stamp,
+            },
+            _ => Call::Poll { stamp },
+        }
+    }
+}
+
+/// One call on a state with a flag that the reference has no word for.
+fn try_flags(input: &mut Input, state: &State) {
+    let mut bent = raw(state);
+    let flag = input.of(&[2, 3, 256, u32::MAX]).max(2);
+    match input.byte() % 3 {
+        0 => bent.live = flag,
+        1 => bent.control.pairing = flag,
+        _ => bent.last.any = flag,
+    }
+    hold_no_state(&bent, &input.call(state.stamp), &"flag");
+}
+
+/// Follows the calls of an input from its state on.
+fn follow(bytes: &[u8]) {
+    let mut input = Input { bytes };
+    let mut state = input.state();
+    try_flags(&mut input, &state);
+    while !input.bytes.is_empty() {
+        let call = input.call(state.stamp);
+        if sound(&state) {
+            state = hold(&state, &call, &"fuzz").0;
+        } else {
+            hold_no_state(&raw(&state), &call, &"fuzz");
+            // What was broken stays so: on with a fresh state.
+            state = State::fresh(1 + state.stamp % 3, state.stamp);
+        }
+    }
+}
+
+/// libFuzzer's entry.
+///
+/// # Safety
+///
+/// `data` points to `size` bytes that can be read.
+#[no_mangle]
+pub unsafe extern "C" fn LLVMFuzzerTestOneInput(data: *const u8, size: usize) -> i32 {
+    if size > 0 {
+        // SAFETY: libFuzzer hands over `size` bytes.
+        follow(unsafe { std::slice::from_raw_parts(data, size) });
+    }
+    0
+}

@@ -1,0 +1,270 @@
+//! The gate of one radio channel: it takes samples and packets, and says when a packet may go.
+//!
+//! ```
+//! use presscurlew::{Answer, Gate, Offer, Refusal};
+//!
+//! // The radio's 32-bit count wraps in the middle of this; the gate does not mind.
+//! let mut gate = Gate::new(2, 4_294_967_000)?;
+//! gate.offer(Offer { id: 7, priority: 2, ontime: 400, lifetime: 1_000_000 }, 4_294_967_100)?;
+//! gate.offer(Offer { id: 8, priority: 1, ontime: 400, lifetime: 60_000 }, 4_294_967_100)?;
+//!
+//! let Answer::Sent(packet) = gate.poll(4_294_967_200)? else { panic!() };
+//! assert_eq!(packet.id, 8);
+//! assert_eq!(gate.poll(704)?, Answer::Closed { micros: 49_200 });
+//! let Answer::Sent(packet) = gate.poll(49_904)? else { panic!() };
+//! assert_eq!(packet.id, 7);
+//!
+//! // A clock that goes back is refused, and the gate stays as it was.
+//! assert_eq!(gate.poll(49_903), Err(Refusal::ClockBack));
+//! assert_eq!(gate.poll(49_904)?, Answer::Idle);
+//! # Ok::<(), Refusal>(())
+//! ```
+
+use std::error::Error;
+use std::fmt;
+
+use crate::sys;
+pub use crate::sys::Packet;
+
+/// The gate of one channel.
+///
+/// It holds its state and lets nobody change it, so every state that it is in came from its own calls. It
+/// can't be cloned: each of two copies would admit packets for itself, and together they would send
+/// more than one gate may.
+///
+/// Every call takes the radio's stamp, a 32-bit count of µs that starts anywhere and wraps. The gate has to be
+/// called at least once in 2,147,483,647 µs (some 35 minutes); after a longer time the clock seems to have gone
+/// back.
+#[derive(Debug, PartialEq, Eq)]
+pub struct Gate {
+    state: sys::State,
+}
+
+/// A packet to send.
+#[derive(Clone, Copy, Debug, PartialEq, Eq, Hash)]
+pub struct Offer {
+    /// The host's own name for it: any number, repeats allowed.
+    pub id: u32,
+    /// The priority, 0 (highest) to 3.
+    pub priority: u32,
+    /// The time on air in µs: at most 1,000, 500 or 4,000, by the profile.
+    pub ontime: u32,
+    /// How long it may wait, in µs: at most 60,000,000.
+    pub lifetime: u32,
+}
+
+/// What a poll answers.
+#[derive(Clone, Copy, Debug, PartialEq, Eq, Hash)]
+pub enum Answer {
+    /// This packet has left its queue, and goes on air now.
+    Sent(Packet),
+    /// Nothing waits.
+    Idle,
+    /// The gate is closed.
+    Closed {
+        /// The µs left until it opens, unless a sample changes the wait.
+        micros: u64,
+    },
+}
+
+impl fmt::Display for Answer {
+    fn fmt(&self, f: &mut fmt::Formatter<'_>) -> fmt::Result {
+        match self {
+            Answer::Sent(packet) => write!(f, "SENT {}", packet.id),
+            Answer::Idle => f.write_str("IDLE"),
+            Answer::Closed { micros } => write!(f, "CLOSED {micros}"),
+        }
+    }
+}
+
+/// Why a call was refused. A refused call changes nothing, clock included.
+#[derive(Clone, Copy, Debug, PartialEq, Eq, Hash)]
+pub enum Refusal {
+    /// The profile is not 1 to 3.
+    BadProfile,
+    /// The step from the last stamp, modulo 2^32, is 2,147,483,648 or more.
+    ClockBack,
+    /// The running time would pass 10^15 µs, some 31 years.
+    ClockEnd,
+    /// Not 16 words, or a bit above bit 39 set in the last, or a busy count above 1,000.
+    BadSample,
+    /// The priority is above 3.
+    BadPriority,
+    /// The profile does not allow this on-time.
+    BadOnTime,
+    /// The lifetime is 0 or above 60,000,000.
+    BadLifetime,
+    /// 5 unexpired packets of this priority wait.
+    QueueFull,
+    /// The state is not sound. A [`Gate`] never answers this; the calls in [`sys`] may.
+    NoState,
+}
+
+/// The refusals in the order of their numbers, from 1 on.
+const REFUSALS: [Refusal; 9] = [
+    Refusal::BadProfile,
+    Refusal::ClockBack,
+    Refusal::ClockEnd,
+    Refusal::BadSample,
+    Refusal::BadPriority,
+    Refusal::BadOnTime,
+    Refusal::BadLifetime,
+    Refusal::QueueFull,
+    Refusal::NoState,
+];
+
+impl Refusal {
+    /// The refusal's number, 1 to 9, as a C caller sees it.
+    pub const fn number(self) -> u32 {
+        self as u32 + 1
+    }
+
+    /// The refusal of a number, if there is one.
+    ///
+    /// ```
+    /// use presscurlew::Refusal;
+    /// assert_eq!(Refusal::from_number(8), Some(Refusal::QueueFull));
+    /// assert_eq!(Refusal::from_number(0), None);
+    /// ```
+    pub fn from_number(number: u32) -> Option<Refusal> {
+        let mut all = REFUSALS.into_iter();
+        all.find(|refusal| refusal.number() == number)
+    }
+
+    /// The refusal's name, as `"QUEUE-FULL"`.
+    pub const fn name(self) -> &'static str {
+        match self {
+            Refusal::BadProfile => "BAD-PROFILE",
+            Refusal::ClockBack => "CLOCK-BACK",
+            Refusal::ClockEnd => "CLOCK-END",
+            Refusal::BadSample => "BAD-SAMPLE",
+            Refusal::BadPriority => "BAD-PRIORITY",
+            Refusal::BadOnTime => "BAD-ON-TIME",
+            Refusal::BadLifetime => "BAD-LIFETIME",
+            Refusal::QueueFull => "QUEUE-FULL",
+            Refusal::NoState => "NO-STATE",
+        }
+    }
+
+    const fn reason(self) -> &'static str {
+        match self {
+            Refusal::BadProfile => "the profile is not 1 to 3",
+            Refusal::ClockBack => "the clock went back",
+            Refusal::ClockEnd => "the running time would pass 10^15 µs",
+            Refusal::BadSample => "it is not a sample of 1,000 probes",
+            Refusal::BadPriority => "the priority is above 3",
+            Refusal::BadOnTime => "the profile does not allow this on-time",
+            Refusal::BadLifetime => "the lifetime is 0 or above 60,000,000",
+            Refusal::QueueFull => "5 packets of this priority wait",
+            Refusal::NoState => "the state is not sound",
+        }
+    }
+}
+
+impl fmt::Display for Refusal {
+    fn fmt(&self, f: &mut fmt::Formatter<'_>) -> fmt::Result {
+        write!(f, "{}: {}", self.name(), self.reason())
+    }
+}
+
+impl Error for Refusal {}
+
+/// The reply, unless it is a refusal.
+fn accepted(reply: sys::Reply) -> Result<sys::Reply, Refusal> {
+    if reply.kind != sys::REFUSED {
+        return Ok(reply);
+    }
+    let number = u32::try_from(reply.number).ok();
+    // The contracts give no number but those of the refusals.
+    let refusal = number.and_then(Refusal::from_number);
+    Err(refusal.unwrap_or_else(|| unreachable!("the archive answered {reply:?}")))
+}
+
+impl Gate {
+    /// A fresh gate of profile 1 to 3, at the radio's stamp.
+    ///
+    /// # Errors
+    ///
+    /// [`Refusal::BadProfile`].
+    pub fn new(profile: u32, stamp: u32) -> Result<Gate, Refusal> {
+        let turn = sys::presscurlew_make(profile, stamp);
+        accepted(turn.reply)?;
+        Ok(Gate { state: turn.state })
+    }
+
+    /// A sample of the channel by words: 1,000 probes in 16 words. Probe k is bit k mod 64 of word k / 64, 1 if
+    /// the channel was busy; the bits above bit 39 of the last word are 0.
+    ///
+    /// # Errors
+    ///
+    /// [`Refusal::ClockBack`], [`Refusal::ClockEnd`], [`Refusal::BadSample`].
+    pub fn sample_words(&mut self, words: &[u64], stamp: u32) -> Result<(), Refusal> {
+        self.take(sys::sample_words(self.state, words, stamp))?;
+        Ok(())
+    }
+
+    /// A sample of the channel by its busy count: how many of 1,000 probes were busy.
+    ///
+    /// # Errors
+    ///
+    /// [`Refusal::ClockBack`], [`Refusal::ClockEnd`], [`Refusal::BadSample`].
+    pub fn sample_count(&mut self, busy: u32, stamp: u32) -> Result<(), Refusal> {
+        self.take(sys::presscurlew_sample_count(self.state, busy, stamp))?;
+        Ok(())
+    }
+
+    /// A packet to send: it joins the back of its priority's queue.
+    ///
+    /// # Errors
+    ///
+    /// [`Refusal::ClockBack`], [`Refusal::ClockEnd`], [`Refusal::BadPriority`], [`Refusal::BadOnTime`],
+    /// [`Refusal::BadLifetime`], [`Refusal::QueueFull`].
+    pub fn offer(&mut self, offer: Offer, stamp: u32) -> Result<(), Refusal> {
+        let Offer {
+            id,
+            priority,
+            ontime,
+            lifetime,
+        } = offer;
+        self.take(sys::presscurlew_offer(
+            self.state, id, priority, ontime, lifetime, stamp,
+        ))?;
+        Ok(())
+    }
+
+    /// Whether a packet may go, and which: the oldest of the lowest-numbered queue that has one.
+    ///
+    /// # Errors
+    ///
+    /// [`Refusal::ClockBack`], [`Refusal::ClockEnd`].
+    pub fn poll(&mut self, stamp: u32) -> Result<Answer, Refusal> {
+        let reply = self.take(sys::presscurlew_poll(self.state, stamp))?;
+        Ok(match reply.kind {
+            sys::SENT => Answer::Sent(reply.packet),
+            sys::IDLE => Answer::Idle,
+            sys::CLOSED => Answer::Closed {
+                micros: reply.number,
+            },
+            // The contract of a poll gives no other kind.
+            _ => unreachable!("the archive answered a poll with {reply:?}"),
+        })
+    }
+
+    /// The state, to look at: level, duty, what waits, the running time.
+    ///
+    /// ```
+    /// let mut gate = presscurlew::Gate::new(1, 0)?;
+    /// gate.sample_count(700, 100_000)?;
+    /// assert_eq!(gate.state().control.level, 1);
+    /// # Ok::<(), presscurlew::Refusal>(())
+    /// ```
+    pub fn state(&self) -> &sys::State {
+        &self.state
+    }
+
+    /// Keeps the state that a call handed back. That of a refused call is the one it was given.
+    fn take(&mut self, turn: sys::Turn) -> Result<sys::Reply, Refusal> {
+        self.state = turn.state;
+        accepted(turn.reply)
+    }
+}

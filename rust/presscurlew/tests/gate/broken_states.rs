@@ -1,0 +1,276 @@
+//! States with one rule of soundness broken, in every place where it can be: every call gets 9 and hands the
+//! state back as it was. Which rules there are is the reference's list.
+
+use std::collections::BTreeMap;
+
+use crate::help::{calls_at, hold, hold_no_state, raw, PROFILES, TIME_END};
+use presscurlew::sys;
+use reference::rules;
+use reference::state::{broken_rules, rule_names, Packet, Queue, State};
+
+const TIME: u64 = 5_000_000_000;
+
+/// A sound state with this many packets in each queue; something was admitted, and profile 3 keeps a sample.
+fn base(profile: u32, length: usize) -> State {
+    let ontime = rules::on_time_max(profile).unwrap();
+    let mut state = State::fresh(profile, 77);
+    state.time = TIME;
+    state.haskept = profile == 3;
+    state.kept = if state.haskept { 400_000 } else { 0 };
+    (state.any, state.at, state.ontime) = (true, TIME - 10, ontime);
+    for priority in 0..4 {
+        let packet = Packet {
+            id: 5,
+            priority,
+            ontime,
+            lifetime: 60_000_000,
+            arrival: TIME,
+        };
+        state.queues[priority as usize] = Queue::of(&vec![packet; length]);
+    }
+    state
+}
+
+/// Broken states, each with the name of the rule that it breaks.
+#[derive(Default)]
+struct Broken {
+    states: Vec<(&'static str, State)>,
+}
+
+impl Broken {
+    fn add(&mut self, rule: &'static str, state: State, change: impl FnOnce(&mut State)) {
+        let mut state = state;
+        change(&mut state);
+        self.states.push((rule, state));
+    }
+
+    fn control(&mut self, profile: u32) {
+        let (empty, full) = (State::fresh(profile, 77), base(profile, 5));
+        self.add("live", full, |s| s.live = false);
+        for bad in [0, 4, 5, 1 << 31, u32::MAX] {
+            self.add("profile 1 to 3", empty, |s| s.profile = bad);
+        }
+        for bad in [5, 6, 1 << 31, u32::MAX] {
+            self.add("level at most 4", full, |s| s.level = bad);
+        }
+        for bad in [0, 1, 599_999, 30_000_001, u32::MAX] {
+            self.add("duty within limits", full, |s| s.duty = bad);
+        }
+        for bad in [1_000_001, 1 << 31, u32::MAX] {
+            self.add("smoothed load at most 1,000,000", full, |s| {
+                s.smoothed = bad
+            });
+        }
+        for bad in [1, 1_000_000] {
+            self.add("kept load zero when none kept", full, |s| {
+                (s.haskept, s.kept) = (false, bad)
+            });
+        }
+        if profile == 3 {
+            for bad in [1_000_001, u32::MAX] {
+                self.add("kept load at most 1,000,000", full, |s| s.kept = bad);
+            }
+        } else {
+            for kept in [0, 1, 1_000_000] {
+                self.add("sample kept only in profile 3", full, |s| {
+                    (s.haskept, s.kept) = (true, kept)
+                });
+            }
+        }
+    }
+
+    fn clock_and_last(&mut self, profile: u32) {
+        let full = base(profile, 5);
+        let longest = rules::on_time_max(profile).unwrap();
+        for bad in [TIME_END + 1, 1 << 63, u64::MAX] {
+            self.add("running time at most 10^15", full, |s| s.time = bad);
+        }
+        for bad in [TIME + 1, TIME_END, u64::MAX] {
+            self.add("admission not after running time", full, |s| s.at = bad);
+        }
+        for bad in [0, longest + 1, u32::MAX] {
+            self.add("admission on-time allowed", full, |s| s.ontime = bad);
+        }
+        let none = |s: &mut State| (s.any, s.at, s.ontime) = (false, 0, 0);
+        for bad in [1, TIME] {
+            self.add("admission time zero before the first", full, |s| {
+                none(s);
+                s.at = bad;
+            });
+        }
+        for bad in [1, longest] {
+            self.add("admission on-time zero before the first", full, |s| {
+                none(s);
+                s.ontime = bad;
+            });
+        }
+    }
+
+    fn lengths(&mut self, profile: u32) {
+        for state in [State::fresh(profile, 77), base(profile, 5)] {
+            for queue in 0..4 {
+                for bad in [6, 7, 255, 1 << 32, (1 << 32) + 1, 1 << 63, u64::MAX] {
+                    self.add("queue length at most 5", state, |s| {
+                        s.queues[queue].len = bad
+                    });
+                }
+            }
+        }
+    }
+
+    /// One slot of one queue that waits.
+    fn waiting(&mut self, profile: u32, length: usize, queue: usize, slot: usize) {
+        let state = base(profile, length);
+        let longest = rules::on_time_max(profile).unwrap();
+        let mut bend = |rule, change: &dyn Fn(&mut Packet)| {
+            self.add(rule, state, |s| change(&mut s.queues[queue].slots[slot]));
+        };
+        for bad in [0, longest + 1, u32::MAX] {
+            bend("waiting on-time allowed", &|p| p.ontime = bad);
+        }
+        for bad in [0, 60_000_001, u32::MAX] {
+            bend("waiting lifetime within limits", &|p| p.lifetime = bad);
+        }
+        for bad in [(queue as u32 + 1) % 4, queue as u32 + 4, u32::MAX] {
+            bend("waiting in its own priority's queue", &|p| p.priority = bad);
+        }
+        for bad in [TIME + 1, u64::MAX] {
+            self.add("arrival not after running time", state, |s| {
+                let later = &mut s.queues[queue].slots[slot..length];
+                later.iter_mut().for_each(|p| p.arrival = bad);
+            });
+        }
+        if slot > 0 {
+            for earlier in [TIME - 1, 0] {
+                self.add("arrivals not decreasing", state, |s| {
+                    let later = &mut s.queues[queue].slots[slot..length];
+                    later.iter_mut().for_each(|p| p.arrival = earlier);
+                });
+            }
+        }
+    }
+
+    /// One field of one slot of one queue that is unused.
+    fn unused(&mut self, profile: u32, length: usize, queue: usize, slot: usize) {
+        let fields: [fn(&mut Packet); 7] = [
+            |p| p.id = 1,
+            |p| p.id = 1 << 31,
+            |p| p.priority = 1,
+            |p| p.ontime = 1,
+            |p| p.lifetime = 1,
+            |p| p.arrival = 1,
+            |p| p.arrival = 1 << 63,
+        ];
+        for field in fields {
+            self.add("slots past the length zero", base(profile, length), |s| {
+                field(&mut s.queues[queue].slots[slot]);
+            });
+        }
+    }
+
+    fn all() -> Broken {
+        let mut broken = Broken::default();
+        for profile in PROFILES {
+            broken.control(profile);
+            broken.clock_and_last(profile);
+            broken.lengths(profile);
+            for length in 0..=5 {
+                for queue in 0..4 {
+                    (0..length).for_each(|slot| broken.waiting(profile, length, queue, slot));
+                    (length..5).for_each(|slot| broken.unused(profile, length, queue, slot));
+                }
+            }
+        }
+        broken
+    }
+}
+
+/// Every call on a state is refused with 9, whatever else is wrong with it.
+fn hold_all_calls(state: &sys::State, origin: &dyn std::fmt::Display) {
+    let profile = state.control.profile;
+    for step in [0, 1_000, 1 << 31] {
+        let stamp = state.clock.stamp.wrapping_add(step);
+        for call in calls_at(
+            if PROFILES.contains(&profile) {
+                profile
+            } else {
+                1
+            },
+            stamp,
+        ) {
+            hold_no_state(state, &call, origin);
+        }
+    }
+}
+
+/// The states that are bent are sound before.
+#[test]
+fn bases_are_sound() {
+    for profile in PROFILES {
+        for length in 0..=5 {
+            let state = base(profile, length);
+            assert_eq!(broken_rules(&state), [""; 0]);
+            for call in calls_at(profile, 78) {
+                hold(&state, &call, &"base");
+            }
+        }
+    }
+}
+
+#[test]
+fn one_broken_rule_is_refused_with_9() {
+    let mut seen = BTreeMap::new();
+    for (rule, state) in Broken::all().states {
+        assert_eq!(broken_rules(&state), [rule], "{state:?}");
+        hold_all_calls(&raw(&state), &format_args!("{rule}: {state:?}"));
+        *seen.entry(rule).or_insert(0) += 1;
+    }
+    for rule in rule_names() {
+        assert!(seen.contains_key(rule), "nothing breaks the rule: {rule}");
+    }
+}
+
+/// A flag is 0 or 1; the reference has no other, so they are bent in the archive's own state.
+#[test]
+fn flags_above_1_are_refused_with_9() {
+    for profile in PROFILES {
+        let full = raw(&base(profile, 3));
+        for bad in [2, 3, 256, 1 << 31, u32::MAX] {
+            let flags: [fn(&mut sys::State, u32); 3] = [
+                |s, flag| s.live = flag,
+                |s, flag| s.control.pairing = flag,
+                |s, flag| s.last.any = flag,
+            ];
+            for bend in flags {
+                let mut state = full;
+                bend(&mut state, bad);
+                hold_all_calls(&state, &format_args!("flag {bad}: {state:?}"));
+            }
+        }
+    }
+}
+
+/// The state of a refused make, and states of bytes that are all the same.
+#[test]
+fn states_of_no_sense_are_refused_with_9() {
+    let refused = sys::presscurlew_make(0, 5);
+    assert_eq!(refused.state, sys::State::default());
+    hold_all_calls(&refused.state, &"the all-zero state");
+    let mut state = raw(&State::default());
+    for fill in [1, 2, 5, 255, u32::MAX] {
+        let packet = sys::Packet {
+            id: fill,
+            priority: fill,
+            ontime: fill,
+            lifetime: fill,
+            arrival: u64::from(fill),
+        };
+        state.queues = [sys::Queue {
+            len: u64::from(fill),
+            slots: [packet; 5],
+        }; 4];
+        state.control.profile = fill;
+        state.live = fill;
+        hold_all_calls(&state, &format_args!("a state of {fill}"));
+    }
+}

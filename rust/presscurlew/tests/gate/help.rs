@@ -1,0 +1,251 @@
+//! States and calls of the archive beside those of the reference.
+
+use std::fmt::Display;
+
+use presscurlew::sys;
+use reference::gate;
+use reference::rng::Rng;
+use reference::rules;
+use reference::state::{Packet, Queue, State};
+
+pub use reference::gate::{Answer, Call};
+
+pub const PROFILES: [u32; 3] = [1, 2, 3];
+pub const TIME_END: u64 = 1_000_000_000_000_000;
+
+/// Numbers at which a priority, an on-time, a lifetime or a busy count turns good or bad.
+pub const EDGE_PRIORITIES: [u32; 8] = [0, 1, 2, 3, 4, 5, 1 << 31, u32::MAX];
+pub const EDGE_ONTIMES: [u32; 11] = [0, 1, 2, 499, 500, 501, 1_000, 1_001, 4_000, 4_001, u32::MAX];
+pub const EDGE_LIFETIMES: [u32; 8] = [
+    0,
+    1,
+    2,
+    59_999_999,
+    60_000_000,
+    60_000_001,
+    1 << 31,
+    u32::MAX,
+];
+pub const EDGE_COUNTS: [u32; 18] = [
+    0,
+    1,
+    299,
+    300,
+    399,
+    400,
+    499,
+    500,
+    600,
+    601,
+    650,
+    651,
+    680,
+    999,
+    1_000,
+    1_001,
+    1_002,
+    u32::MAX,
+];
+/// Steps at which the clock wraps, stands still, or goes back.
+pub const EDGE_STEPS: [u32; 7] = [
+    0,
+    1,
+    (1 << 31) - 2,
+    (1 << 31) - 1,
+    1 << 31,
+    (1 << 31) + 1,
+    u32::MAX,
+];
+
+fn raw_packet(packet: &Packet) -> sys::Packet {
+    sys::Packet {
+        id: packet.id,
+        priority: packet.priority,
+        ontime: packet.ontime,
+        lifetime: packet.lifetime,
+        arrival: packet.arrival,
+    }
+}
+
+fn raw_queue(queue: &Queue) -> sys::Queue {
+    sys::Queue {
+        len: queue.len,
+        slots: queue.slots.each_ref().map(raw_packet),
+    }
+}
+
+/// A state of the reference as the archive has it.
+pub fn raw(state: &State) -> sys::State {
+    sys::State {
+        queues: state.queues.each_ref().map(raw_queue),
+        clock: sys::Clock {
+            time: state.time,
+            stamp: state.stamp,
+        },
+        control: sys::Control {
+            profile: state.profile,
+            level: state.level,
+            duty: state.duty,
+            smoothed: state.smoothed,
+            kept: state.kept,
+            pairing: u32::from(state.haskept),
+        },
+        last: sys::Last {
+            at: state.at,
+            ontime: state.ontime,
+            any: u32::from(state.any),
+        },
+        live: u32::from(state.live),
+    }
+}
+
+/// An answer of the reference as the archive has it.
+pub fn raw_reply(answer: &Answer) -> sys::Reply {
+    let (kind, number, packet) = match answer {
+        Answer::Ready => (0, 0, Packet::default()),
+        Answer::Taken => (1, 0, Packet::default()),
+        Answer::Sent(packet) => (2, 0, *packet),
+        Answer::Idle => (3, 0, Packet::default()),
+        Answer::Closed(left) => (4, *left, Packet::default()),
+        Answer::Refused(number) => (5, u64::from(*number), Packet::default()),
+    };
+    sys::Reply {
+        packet: raw_packet(&packet),
+        number,
+        kind,
+    }
+}
+
+/// A call on the archive. Words that it is lent stay as they are.
+pub fn archive(state: sys::State, call: &Call) -> sys::Turn {
+    match *call {
+        Call::SampleWords { ref words, stamp } => {
+            let lent = words.clone();
+            let turn = sys::sample_words(state, &lent, stamp);
+            assert_eq!(lent, *words, "lent words were written to");
+            turn
+        }
+        Call::SampleCount { busy, stamp } => sys::presscurlew_sample_count(state, busy, stamp),
+        Call::Offer {
+            id,
+            priority,
+            ontime,
+            lifetime,
+            stamp,
+        } => sys::presscurlew_offer(state, id, priority, ontime, lifetime, stamp),
+        Call::Poll { stamp } => sys::presscurlew_poll(state, stamp),
+    }
+}
+
+/// Holds one call on a state to the reference: the answer and every field of the next state. `origin` says
+/// where the call comes from.
+pub fn hold(state: &State, call: &Call, origin: &dyn Display) -> (State, Answer) {
+    let given = raw(state);
+    let (next, answer) = gate::call(*state, call);
+    let turn = archive(given, call);
+    let expected = sys::Turn {
+        state: raw(&next),
+        reply: raw_reply(&answer),
+    };
+    assert_eq!(turn, expected, "{origin}: {call:?} on {state:?}");
+    if turn.reply.kind == sys::REFUSED {
+        assert_eq!(
+            turn.state, given,
+            "{origin}: refused {call:?} changed {state:?}"
+        );
+    }
+    (next, answer)
+}
+
+/// Holds a call to the refusal 9, with the state as it was.
+pub fn hold_no_state(state: &sys::State, call: &Call, origin: &dyn Display) {
+    let expected = sys::Turn {
+        state: *state,
+        reply: raw_reply(&Answer::Refused(9)),
+    };
+    assert_eq!(archive(*state, call), expected, "{origin}: {call:?}");
+}
+
+/// Sixteen words with the first `busy` probes busy.
+pub fn first_busy(busy: usize) -> Vec<u64> {
+    let mut words = vec![0; 16];
+    for k in 0..busy {
+        words[k / 64] |= 1 << (k % 64);
+    }
+    words
+}
+
+/// Every kind of call at one stamp, with good and bad numbers.
+pub fn calls_at(profile: u32, stamp: u32) -> Vec<Call> {
+    let ontime = rules::on_time_max(profile).unwrap_or(1);
+    let mut calls = vec![
+        Call::Poll { stamp },
+        Call::SampleCount { busy: 550, stamp },
+        Call::SampleCount { busy: 1_001, stamp },
+        Call::SampleWords {
+            words: first_busy(700),
+            stamp,
+        },
+        Call::SampleWords {
+            words: vec![0; 15],
+            stamp,
+        },
+    ];
+    for priority in 0..5 {
+        calls.push(Call::Offer {
+            id: 9,
+            priority,
+            ontime,
+            lifetime: 60_000_000,
+            stamp,
+        });
+    }
+    calls.push(Call::Offer {
+        id: 9,
+        priority: 0,
+        ontime: ontime + 1,
+        lifetime: 1,
+        stamp,
+    });
+    calls.push(Call::Offer {
+        id: 9,
+        priority: 3,
+        ontime: 1,
+        lifetime: 0,
+        stamp,
+    });
+    calls
+}
+
+/// A number: now and then one of the edges, else any up to `most`.
+pub fn edge_or(rng: &mut Rng, edges: &[u32], most: u32) -> u32 {
+    if rng.one_in(3) {
+        rng.pick(edges)
+    } else {
+        rng.below(u64::from(most) + 1) as u32
+    }
+}
+
+/// A sample by words: mostly a good one of any density, else of a bad length or with a stray bit.
+pub fn random_words(rng: &mut Rng) -> Vec<u64> {
+    let length = match rng.below(12) {
+        0 => rng.below(40) as usize,
+        _ => 16,
+    };
+    let density = rng.below(5);
+    let mut words: Vec<u64> = (0..length).map(|_| random_word(rng, density)).collect();
+    if length == 16 && !rng.one_in(12) {
+        words[15] &= (1 << 40) - 1;
+    }
+    words
+}
+
+fn random_word(rng: &mut Rng, density: u64) -> u64 {
+    match density {
+        0 => rng.next_u64() & rng.next_u64(),
+        1 => rng.next_u64() | rng.next_u64(),
+        2 => 0,
+        3 => u64::MAX,
+        _ => rng.next_u64(),
+    }
+}

@@ -1,0 +1,31 @@
+//! Sizes and offsets of the structs. `examples/c/layout.c` prints the same of the header's structs, and both are
+//! held to one file, so that C and Rust see one layout.
+
+use std::fmt::Write;
+use std::mem::{offset_of, size_of};
+
+use presscurlew::sys::{Clock, Control, Last, Packet, Queue, Reply, State, Turn};
+
+const LAYOUT: &str = include_str!("../../../../examples/c/layout.out");
+
+/// A line for the struct's size, then one for each field's offset.
+macro_rules! layout {
+    ($text:ident, $name:literal, $type:ty, $($field:ident),+) => {
+        writeln!($text, "{} {} bytes", $name, size_of::<$type>()).unwrap();
+        $(writeln!($text, "  {:<8} at {:>3}", stringify!($field), offset_of!($type, $field)).unwrap();)+
+    };
+}
+
+#[test]
+fn structs_lie_as_c_sees_them() {
+    let mut text = String::new();
+    layout!(text, "packet", Packet, id, priority, ontime, lifetime, arrival);
+    layout!(text, "queue", Queue, len, slots);
+    layout!(text, "clock", Clock, time, stamp);
+    layout!(text, "control", Control, profile, level, duty, smoothed, kept, pairing);
+    layout!(text, "last", Last, at, ontime, any);
+    layout!(text, "state", State, queues, clock, control, last, live);
+    layout!(text, "reply", Reply, packet, number, kind);
+    layout!(text, "turn", Turn, state, reply);
+    assert_eq!(text, LAYOUT);
+}

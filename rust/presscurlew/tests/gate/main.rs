@@ -1,0 +1,20 @@
+//! The gate of the archive, held to the reference: every answer and every field of every next state.
+//!
+//! - `runs`: random and edge runs from a fresh state, with the book over them
+//! - `sound_states`: sound states that no run need reach
+//! - `broken_states`: states with one rule of soundness broken
+//! - `refusals`: which refusal comes first, and that it changes nothing
+//! - `samples`: the busy count of words
+//! - `sample_log`: the requirement's own log
+//! - `safe`: what `Gate` makes of the archive's calls
+//! - `layout`: sizes and offsets, the same as C sees
+
+mod broken_states;
+mod help;
+mod layout;
+mod refusals;
+mod runs;
+mod safe;
+mod sample_log;
+mod samples;
+mod sound_states;

@@ -1,0 +1,165 @@
+//! Which refusal a call answers: the first that holds, in the order 9, 2, 3, then 4, 5, 6, 7, 8. The expected
+//! numbers stand here as a table, apart from the reference.
+
+use crate::help::{archive, first_busy, raw, raw_reply, Answer, Call, PROFILES, TIME_END};
+use presscurlew::sys;
+use reference::rules;
+use reference::state::{Packet, Queue, State};
+
+/// A sound state near the end of time whose queue 1 is full until the end.
+fn late(profile: u32) -> State {
+    let time = TIME_END - 1_000;
+    let packet = Packet {
+        id: 5,
+        priority: 1,
+        ontime: 1,
+        lifetime: 60_000_000,
+        arrival: time,
+    };
+    let mut state = State::fresh(profile, u32::MAX - 10);
+    state.time = time;
+    state.queues[1] = Queue::of(&[packet; 5]);
+    state
+}
+
+/// Holds a call to a refusal, with the state as it was; 0 stands for none.
+fn hold_number(state: &sys::State, call: &Call, number: u32) {
+    let turn = archive(*state, call);
+    if number == 0 {
+        assert_ne!(turn.reply.kind, sys::REFUSED, "{call:?} on {state:?}");
+    } else {
+        let expected = sys::Turn {
+            state: *state,
+            reply: raw_reply(&Answer::Refused(number)),
+        };
+        assert_eq!(turn, expected, "{call:?} on {state:?}");
+    }
+}
+
+/// Steps with the number of their refusal.
+const STEPS: [(u32, u32); 5] = [
+    (0, 0),
+    (1_000, 0),
+    (1_001, 3),
+    ((1 << 31) - 1, 3),
+    (1 << 31, 2),
+];
+
+/// A state, and one that is not sound, with the stamps of the steps from it.
+fn each_place(mut hold: impl FnMut(u32, &sys::State, u32, u32)) {
+    for profile in PROFILES {
+        let state = raw(&late(profile));
+        let mut unsound = state;
+        unsound.control.level = 5;
+        for (step, number) in STEPS {
+            let stamp = state.clock.stamp.wrapping_add(step);
+            hold(profile, &state, stamp, number);
+            hold(profile, &unsound, stamp, 9);
+        }
+    }
+}
+
+/// The first number that is not 0.
+fn first(numbers: &[u32]) -> u32 {
+    let refused = numbers.iter().find(|&&number| number != 0);
+    refused.copied().unwrap_or(0)
+}
+
+#[test]
+fn offers_are_refused_in_order() {
+    each_place(|profile, state, stamp, early| {
+        let longest = rules::on_time_max(profile).unwrap();
+        for (priority, five) in [(0, 0), (1, 0), (3, 0), (4, 5), (u32::MAX, 5)] {
+            for (ontime, six) in [
+                (0, 6),
+                (1, 0),
+                (longest, 0),
+                (longest + 1, 6),
+                (u32::MAX, 6),
+            ] {
+                for (lifetime, seven) in [(0, 7), (1, 0), (60_000_000, 0), (60_000_001, 7)] {
+                    let eight = if priority == 1 { 8 } else { 0 };
+                    let call = Call::Offer {
+                        id: 0,
+                        priority,
+                        ontime,
+                        lifetime,
+                        stamp,
+                    };
+                    hold_number(state, &call, first(&[early, five, six, seven, eight]));
+                }
+            }
+        }
+    });
+}
+
+#[test]
+fn samples_are_refused_in_order() {
+    let stray = |bit: u32| {
+        let mut words = first_busy(3);
+        words[15] |= 1 << bit;
+        words
+    };
+    each_place(|_, state, stamp, early| {
+        for (busy, four) in [(0, 0), (1_000, 0), (1_001, 4), (u32::MAX, 4)] {
+            hold_number(
+                state,
+                &Call::SampleCount { busy, stamp },
+                first(&[early, four]),
+            );
+        }
+        let lengths = (0..40).filter(|&length| length != 16);
+        let mut samples: Vec<(Vec<u64>, u32)> =
+            lengths.map(|length| (vec![0; length], 4)).collect();
+        samples.extend([
+            (first_busy(0), 0),
+            (first_busy(1_000), 0),
+            (vec![u64::MAX; 16], 4),
+        ]);
+        samples.extend((0..64).map(|bit| (stray(bit), if bit < 40 { 0 } else { 4 })));
+        for (words, four) in samples {
+            hold_number(
+                state,
+                &Call::SampleWords { words, stamp },
+                first(&[early, four]),
+            );
+        }
+    });
+}
+
+#[test]
+fn polls_are_refused_in_order() {
+    each_place(|_, state, stamp, early| hold_number(state, &Call::Poll { stamp }, early));
+}
+
+/// Five wait, and the first expires at one moment: full one µs before it, room from it on. A refused offer
+/// removes nothing.
+#[test]
+fn full_until_one_expires() {
+    for profile in PROFILES {
+        let mut state = State::fresh(profile, 0);
+        let packet = Packet {
+            id: 5,
+            priority: 2,
+            ontime: 1,
+            lifetime: 60_000,
+            arrival: 0,
+        };
+        state.queues[2] = Queue::of(&[packet; 5]);
+        state.queues[0] = Queue::of(&[Packet {
+            priority: 0,
+            lifetime: 1,
+            ..packet
+        }]);
+        for (stamp, number) in [(0, 8), (59_999, 8), (60_000, 0)] {
+            let call = Call::Offer {
+                id: 6,
+                priority: 2,
+                ontime: 1,
+                lifetime: 1,
+                stamp,
+            };
+            hold_number(&raw(&state), &call, number);
+        }
+    }
+}

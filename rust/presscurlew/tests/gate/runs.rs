@@ -1,0 +1,336 @@
+//! Runs from a fresh state: random calls that lean to the moments where an answer turns.
+
+use std::fmt;
+
+use crate::help::{
+    edge_or, hold, random_words, raw, raw_reply, Answer, Call, EDGE_COUNTS, EDGE_LIFETIMES,
+    EDGE_ONTIMES, EDGE_PRIORITIES, EDGE_STEPS, PROFILES, TIME_END,
+};
+use presscurlew::sys;
+use reference::book::Book;
+use reference::gate;
+use reference::rng::Rng;
+use reference::rules;
+use reference::state::State;
+
+/// What a run is like.
+#[derive(Clone, Copy, Debug)]
+struct Style {
+    /// Of 16 calls, so many are samples.
+    samples: u64,
+    /// Of 16 calls, so many are offers; the others are polls.
+    offers: u64,
+    /// The longest step but for edges.
+    step: u64,
+    /// The longest lifetime but for edges.
+    lifetime: u32,
+    /// One number in so many is an edge, good or bad.
+    edges: u64,
+}
+
+const STYLES: [Style; 6] = [
+    // Offers and polls in a hurry: queues are full, most polls find the gate closed.
+    Style {
+        samples: 1,
+        offers: 8,
+        step: 3_000,
+        lifetime: 2_000_000,
+        edges: 40,
+    },
+    // Polls around the moment when the gate opens.
+    Style {
+        samples: 2,
+        offers: 5,
+        step: 120_000,
+        lifetime: 5_000_000,
+        edges: 60,
+    },
+    // Packets mostly expire.
+    Style {
+        samples: 1,
+        offers: 9,
+        step: 60_000,
+        lifetime: 90_000,
+        edges: 60,
+    },
+    // Samples steer.
+    Style {
+        samples: 12,
+        offers: 2,
+        step: 100_000,
+        lifetime: 60_000_000,
+        edges: 80,
+    },
+    // The clock runs.
+    Style {
+        samples: 4,
+        offers: 6,
+        step: 1 << 30,
+        lifetime: 60_000_000,
+        edges: 20,
+    },
+    // Anything goes.
+    Style {
+        samples: 5,
+        offers: 6,
+        step: 1_000_000,
+        lifetime: 60_000_000,
+        edges: 3,
+    },
+];
+
+/// Makes the calls of a run, with an eye on the state that the reference is in.
+struct Caller {
+    rng: Rng,
+    style: Style,
+}
+
+impl Caller {
+    fn call(&mut self, state: &State) -> Call {
+        let stamp = state.stamp.wrapping_add(self.step(state));
+        let drawn = self.rng.below(16);
+        if drawn < self.style.samples {
+            self.sample(stamp)
+        } else if drawn < self.style.samples + self.style.offers {
+            self.offer(state.profile, stamp)
+        } else {
+            Call::Poll { stamp }
+        }
+    }
+
+    fn step(&mut self, state: &State) -> u32 {
+        if self.rng.one_in(self.style.edges) {
+            return self.rng.pick(&EDGE_STEPS);
+        }
+        match self.rng.below(8) {
+            0 => 0,
+            1 => self.step_to_turn(state),
+            _ => self.rng.below(self.style.step) as u32,
+        }
+    }
+
+    /// The step to the moment when a packet expires, the gate opens or the time ends, or one beside it.
+    fn step_to_turn(&mut self, state: &State) -> u32 {
+        let mut turns = vec![state.time];
+        for queue in &state.queues {
+            let expiries = queue.waiting().iter();
+            turns.extend(expiries.map(|packet| packet.arrival + u64::from(packet.lifetime)));
+        }
+        if state.any {
+            let wait = rules::wait(state.profile, state.level, state.duty, state.ontime);
+            turns.push(state.at + u64::from(wait.unwrap()));
+        }
+        if TIME_END - state.time < 1 << 32 {
+            turns.push(TIME_END);
+        }
+        let beside = self.rng.below(3);
+        let step = (self.rng.pick(&turns) + beside).saturating_sub(state.time + 1);
+        u32::try_from(step).unwrap_or(0)
+    }
+
+    fn sample(&mut self, stamp: u32) -> Call {
+        if self.rng.one_in(3) {
+            let words = random_words(&mut self.rng);
+            return Call::SampleWords { words, stamp };
+        }
+        let busy = edge_or(&mut self.rng, &EDGE_COUNTS, 1_000);
+        Call::SampleCount { busy, stamp }
+    }
+
+    fn offer(&mut self, profile: u32, stamp: u32) -> Call {
+        let mut number = |edges: &[u32], least: u32, most: u32| {
+            if self.rng.one_in(self.style.edges) {
+                return self.rng.pick(edges);
+            }
+            least + self.rng.below(u64::from(most - least) + 1) as u32
+        };
+        let most = rules::on_time_max(profile).unwrap();
+        Call::Offer {
+            id: number(&[0, u32::MAX], 0, u32::MAX),
+            priority: number(&EDGE_PRIORITIES, 0, 3),
+            ontime: number(&EDGE_ONTIMES, 1, most),
+            lifetime: number(&EDGE_LIFETIMES, 1, self.style.lifetime),
+            stamp,
+        }
+    }
+}
+
+/// How often each answer came.
+#[derive(Debug, Default)]
+struct Tally {
+    taken: u64,
+    sent: u64,
+    idle: u64,
+    closed: u64,
+    refused: [u64; 10],
+}
+
+impl Tally {
+    fn count(&mut self, answer: &Answer) {
+        match answer {
+            Answer::Ready => {}
+            Answer::Taken => self.taken += 1,
+            Answer::Sent(_) => self.sent += 1,
+            Answer::Idle => self.idle += 1,
+            Answer::Closed(_) => self.closed += 1,
+            Answer::Refused(number) => self.refused[*number as usize] += 1,
+        }
+    }
+}
+
+/// Where a run stands, to be named when a comparison fails.
+struct Place {
+    seed: u64,
+    profile: u32,
+    style: Style,
+    call: u64,
+}
+
+impl fmt::Display for Place {
+    fn fmt(&self, f: &mut fmt::Formatter<'_>) -> fmt::Result {
+        let Place {
+            seed,
+            profile,
+            style,
+            call,
+        } = self;
+        write!(
+            f,
+            "seed {seed:#x}, profile {profile}, {style:?}, call {call}"
+        )
+    }
+}
+
+/// A fresh state, held to the reference.
+fn made(profile: u32, stamp: u32) -> State {
+    let (state, answer) = gate::make(profile, stamp);
+    let turn = sys::presscurlew_make(profile, stamp);
+    let expected = sys::Turn {
+        state: raw(&state),
+        reply: raw_reply(&answer),
+    };
+    assert_eq!(turn, expected, "make({profile}, {stamp})");
+    state
+}
+
+/// One run of so many calls, from a fresh state; the book is kept beside it.
+fn run(profile: u32, style: Style, seed: u64, calls: u64, tally: &mut Tally) {
+    let mut caller = Caller {
+        rng: Rng::new(seed),
+        style,
+    };
+    let stamp = caller.rng.next_u32();
+    let mut state = made(profile, stamp);
+    let mut book = Book::new(stamp);
+    let mut place = Place {
+        seed,
+        profile,
+        style,
+        call: 0,
+    };
+    for call in 0..calls {
+        place.call = call;
+        let asked = caller.call(&state);
+        let (next, answer) = hold(&state, &asked, &place);
+        let fed = book.feed(&asked, &answer);
+        assert_eq!(fed, Ok(()), "{place}: {asked:?} on {state:?}");
+        tally.count(&answer);
+        state = next;
+    }
+    assert_eq!(book.time(), state.time, "{place}");
+}
+
+/// Runs of every style in one profile, of which every answer must have come often.
+fn runs(profile: u32) {
+    let mut tally = Tally::default();
+    for (index, style) in (0u64..).zip(STYLES) {
+        for seed in 0..10 {
+            let seed = 0x5eed_0000 + u64::from(profile) * 0x1000 + index * 0x100 + seed;
+            run(profile, style, seed, 50_000, &mut tally);
+        }
+    }
+    let answers = [tally.taken, tally.sent, tally.idle, tally.closed];
+    assert!(answers.iter().all(|&count| count > 100_000), "{tally:?}");
+    let numbers = [2, 4, 5, 6, 7, 8];
+    assert!(
+        numbers.iter().all(|&number| tally.refused[number] > 1_000),
+        "{tally:?}"
+    );
+    assert_eq!(tally.refused[9], 0);
+}
+
+#[test]
+fn runs_of_profile_1() {
+    runs(1);
+}
+
+#[test]
+fn runs_of_profile_2() {
+    runs(2);
+}
+
+#[test]
+fn runs_of_profile_3() {
+    runs(3);
+}
+
+/// A make of any profile and stamp: only 1 to 3 are ready, else the all-zero state comes back.
+#[test]
+fn makes() {
+    let stamps = [0, 1, 1 << 31, u32::MAX];
+    for profile in (0..300).chain([1 << 31, u32::MAX - 1, u32::MAX]) {
+        for stamp in stamps {
+            let state = made(profile, stamp);
+            assert_eq!(state.live, PROFILES.contains(&profile));
+            assert_eq!(state == State::default(), !state.live);
+        }
+    }
+}
+
+/// A run to the end of time by the longest steps that are good, and what is refused there.
+#[test]
+fn run_to_the_end_of_time() {
+    let mut rng = Rng::new(0xe4d);
+    for profile in PROFILES {
+        let mut state = made(profile, 7);
+        let mut book = Book::new(7);
+        let mut ends = 0;
+        while ends < 1_000 {
+            let left = u32::try_from(TIME_END - state.time).unwrap_or(u32::MAX);
+            let step = match ends {
+                0 => (1 << 31) - 1,
+                // From the first refusal on: to the end exactly, one past it, or no step.
+                _ => rng.pick(&[left.min((1 << 31) - 1), left.saturating_add(1), 0, 1]),
+            };
+            let stamp = state.stamp.wrapping_add(step);
+            let call = end_call(&mut rng, profile, stamp);
+            let (next, answer) = hold(&state, &call, &format!("profile {profile}, to the end"));
+            book.feed(&call, &answer).unwrap();
+            ends += u32::from(answer == Answer::Refused(3));
+            state = next;
+        }
+        assert_eq!((state.time, book.time()), (TIME_END, TIME_END));
+    }
+}
+
+fn end_call(rng: &mut Rng, profile: u32, stamp: u32) -> Call {
+    let ontime = rules::on_time_max(profile).unwrap();
+    match rng.below(4) {
+        0 => Call::SampleCount {
+            busy: rng.below(1_001) as u32,
+            stamp,
+        },
+        1 => Call::SampleWords {
+            words: random_words(rng),
+            stamp,
+        },
+        2 => Call::Offer {
+            id: 1,
+            priority: rng.below(4) as u32,
+            ontime,
+            lifetime: 60_000_000,
+            stamp,
+        },
+        _ => Call::Poll { stamp },
+    }
+}

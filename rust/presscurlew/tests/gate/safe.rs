@@ -1,0 +1,150 @@
+//! `Gate` hands on what the archive answers, and keeps the state.
+
+use crate::help::{edge_or, random_words, raw, Answer, Call, EDGE_COUNTS, EDGE_STEPS, PROFILES};
+use presscurlew::{Gate, Offer, Packet, Refusal};
+use reference::book::Book;
+use reference::gate;
+use reference::rng::Rng;
+
+/// What a call on a `Gate` says, in the reference's words.
+fn said(gate: &mut Gate, call: &Call) -> Answer {
+    let answer = match *call {
+        Call::SampleWords { ref words, stamp } => taken(gate.sample_words(words, stamp)),
+        Call::SampleCount { busy, stamp } => taken(gate.sample_count(busy, stamp)),
+        Call::Offer {
+            id,
+            priority,
+            ontime,
+            lifetime,
+            stamp,
+        } => taken(gate.offer(
+            Offer {
+                id,
+                priority,
+                ontime,
+                lifetime,
+            },
+            stamp,
+        )),
+        Call::Poll { stamp } => gate.poll(stamp).map(polled),
+    };
+    answer.unwrap_or_else(|refusal| Answer::Refused(refusal.number()))
+}
+
+fn taken(answer: Result<(), Refusal>) -> Result<Answer, Refusal> {
+    answer.map(|()| Answer::Taken)
+}
+
+fn polled(answer: presscurlew::Answer) -> Answer {
+    match answer {
+        presscurlew::Answer::Sent(Packet {
+            id,
+            priority,
+            ontime,
+            lifetime,
+            arrival,
+        }) => Answer::Sent(reference::state::Packet {
+            id,
+            priority,
+            ontime,
+            lifetime,
+            arrival,
+        }),
+        presscurlew::Answer::Idle => Answer::Idle,
+        presscurlew::Answer::Closed { micros } => Answer::Closed(micros),
+    }
+}
+
+fn any_call(rng: &mut Rng, last: u32) -> Call {
+    let step = if rng.one_in(30) {
+        rng.pick(&EDGE_STEPS)
+    } else {
+        rng.below(90_000) as u32
+    };
+    let stamp = last.wrapping_add(step);
+    match rng.below(8) {
+        0 => Call::SampleWords {
+            words: random_words(rng),
+            stamp,
+        },
+        1 => Call::SampleCount {
+            busy: edge_or(rng, &EDGE_COUNTS, 1_000),
+            stamp,
+        },
+        2..=4 => Call::Offer {
+            id: rng.next_u32(),
+            priority: rng.below(5) as u32,
+            ontime: rng.below(510) as u32,
+            lifetime: rng.pick(&[0, 1, 80_000, 2_000_000, 60_000_000, 60_000_001]),
+            stamp,
+        },
+        _ => Call::Poll { stamp },
+    }
+}
+
+#[test]
+fn a_gate_says_what_the_reference_says() {
+    for profile in PROFILES {
+        let mut rng = Rng::new(0x5afe + u64::from(profile));
+        let stamp = rng.next_u32();
+        let mut gate = Gate::new(profile, stamp).unwrap();
+        let (mut state, _) = gate::make(profile, stamp);
+        let mut book = Book::new(stamp);
+        for index in 0..200_000 {
+            let call = any_call(&mut rng, state.stamp);
+            let (next, answer) = gate::call(state, &call);
+            assert_eq!(
+                (said(&mut gate, &call), *gate.state()),
+                (answer, raw(&next)),
+                "profile {profile}, call {index}: {call:?}"
+            );
+            book.feed(&call, &answer).unwrap();
+            state = next;
+        }
+    }
+}
+
+#[test]
+fn bad_profiles_make_no_gate() {
+    for profile in [0, 4, u32::MAX] {
+        assert_eq!(Gate::new(profile, 0), Err(Refusal::BadProfile));
+    }
+}
+
+/// The requirement's table of refusal numbers.
+#[test]
+fn refusals_have_the_names_and_numbers_of_the_table() {
+    let table = [
+        (1, "BAD-PROFILE"),
+        (2, "CLOCK-BACK"),
+        (3, "CLOCK-END"),
+        (4, "BAD-SAMPLE"),
+        (5, "BAD-PRIORITY"),
+        (6, "BAD-ON-TIME"),
+        (7, "BAD-LIFETIME"),
+        (8, "QUEUE-FULL"),
+        (9, "NO-STATE"),
+    ];
+    for (number, name) in table {
+        let refusal = Refusal::from_number(number).unwrap();
+        assert_eq!((refusal.number(), refusal.name()), (number, name));
+        assert!(refusal.to_string().starts_with(&format!("{name}: ")));
+    }
+    for number in [0, 10, 11, u32::MAX] {
+        assert_eq!(Refusal::from_number(number), None);
+    }
+}
+
+#[test]
+fn answers_are_shown_in_the_words_of_the_log() {
+    let packet = Packet {
+        id: 7,
+        ..Packet::default()
+    };
+    assert_eq!(presscurlew::Answer::Sent(packet).to_string(), "SENT 7");
+    assert_eq!(presscurlew::Answer::Idle.to_string(), "IDLE");
+    assert_eq!(
+        presscurlew::Answer::Closed { micros: 49_200 }.to_string(),
+        "CLOSED 49200"
+    );
+}

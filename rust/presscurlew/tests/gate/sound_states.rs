@@ -1,0 +1,103 @@
+//! Sound states made field by field. Most are reached by no run: a level in profile 3, a duty in profile 1,
+//! queues of packets that expired long ago, any running time beside any stamp.
+
+use crate::help::{calls_at, edge_or, hold, EDGE_STEPS, PROFILES, TIME_END};
+use reference::rng::Rng;
+use reference::rules;
+use reference::state::{sound, Packet, Queue, State};
+
+const FULL_LOAD: u32 = 1_000_000;
+const EDGE_LOADS: [u32; 5] = [0, 1, 680_000, 999_999, FULL_LOAD];
+
+/// A time up to `most`, often near 0 or near `most`.
+fn time_up_to(rng: &mut Rng, most: u64) -> u64 {
+    match rng.below(6) {
+        0 => 0,
+        1 => most,
+        2 => most.saturating_sub(rng.below(2_000_000)),
+        3 => rng.below(3_000_000).min(most),
+        _ => rng.below(most + 1),
+    }
+}
+
+fn queue(rng: &mut Rng, profile: u32, priority: u32, time: u64) -> Queue {
+    let length = rng.below(6);
+    let mut arrivals: Vec<u64> = (0..length).map(|_| time_up_to(rng, time)).collect();
+    arrivals.sort_unstable();
+    let longest = u64::from(rules::on_time_max(profile).unwrap());
+    let packets: Vec<Packet> = arrivals
+        .into_iter()
+        .map(|arrival| Packet {
+            id: rng.next_u32(),
+            priority,
+            ontime: 1 + rng.below(longest) as u32,
+            lifetime: rng.pick(&[1, 1_000_000, 59_999_999, 60_000_000]),
+            arrival,
+        })
+        .collect();
+    Queue::of(&packets)
+}
+
+/// Any sound state of a profile.
+pub fn sound_state(rng: &mut Rng, profile: u32) -> State {
+    let time = time_up_to(rng, TIME_END);
+    let longest = u64::from(rules::on_time_max(profile).unwrap());
+    let mut state = State {
+        live: true,
+        profile,
+        stamp: rng.next_u32(),
+        time,
+        level: rng.below(5) as u32,
+        duty: 600_000 + edge_or(rng, &[0, 1, 29_399_999, 29_400_000], 29_400_000),
+        smoothed: edge_or(rng, &EDGE_LOADS, FULL_LOAD),
+        ..State::default()
+    };
+    if profile == 3 && rng.one_in(2) {
+        state.haskept = true;
+        state.kept = edge_or(rng, &EDGE_LOADS, FULL_LOAD);
+    }
+    if !rng.one_in(4) {
+        state.any = true;
+        state.at = time_up_to(rng, time);
+        state.ontime = 1 + rng.below(longest) as u32;
+    }
+    for priority in 0..4 {
+        if !rng.one_in(3) {
+            state.queues[priority as usize] = queue(rng, profile, priority, time);
+        }
+    }
+    state
+}
+
+#[test]
+fn sound_states_are_answered_as_the_reference_answers() {
+    let mut rng = Rng::new(0x50de);
+    for index in 0..30_000 {
+        for profile in PROFILES {
+            let state = sound_state(&mut rng, profile);
+            assert!(sound(&state), "{state:?}");
+            let steps = [0, rng.below(2_000_000) as u32, rng.pick(&EDGE_STEPS)];
+            let stamp = state.stamp.wrapping_add(rng.pick(&steps));
+            for call in calls_at(profile, stamp) {
+                hold(&state, &call, &format_args!("sound state {index}"));
+            }
+        }
+    }
+}
+
+/// From a sound state on, a run goes as the reference's, as far as it is followed.
+#[test]
+fn runs_from_sound_states() {
+    let mut rng = Rng::new(0x50de2);
+    for index in 0..3_000 {
+        for profile in PROFILES {
+            let mut state = sound_state(&mut rng, profile);
+            for _ in 0..20 {
+                let stamp = state.stamp.wrapping_add(rng.below(300_000) as u32);
+                let calls = calls_at(profile, stamp);
+                let call = &calls[rng.below(calls.len() as u64) as usize];
+                state = hold(&state, call, &format_args!("run from sound state {index}")).0;
+            }
+        }
+    }
+}

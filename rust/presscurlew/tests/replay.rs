@@ -1,0 +1,170 @@
+//! Holds the proved program `replay` to the reference: both read the same logs, and must write the same bytes.
+//!
+//! `PRESSCURLEW_REPLAY` names the program; without it, the one that `rt check replay` builds is taken.
+
+use std::env;
+use std::io::Write;
+use std::path::PathBuf;
+use std::process::{Command, Stdio};
+use std::thread;
+
+use reference::log::{self, Record};
+use reference::rng::Rng;
+
+fn program() -> PathBuf {
+    let built = concat!(env!("CARGO_MANIFEST_DIR"), "/../../target/bin/replay");
+    let path = env::var_os("PRESSCURLEW_REPLAY").map_or(PathBuf::from(built), PathBuf::from);
+    assert!(path.exists(), "{} is missing: run `rt check replay` first", path.display());
+    path
+}
+
+/// What the program writes for a log that is handed over in pieces of the given size.
+fn replayed(input: &[u8], piece: usize) -> Vec<u8> {
+    let mut child = Command::new(program())
+        .stdin(Stdio::piped())
+        .stdout(Stdio::piped())
+        .spawn()
+        .expect("the program starts");
+    let mut pipe = child.stdin.take().expect("it has a standard input");
+    let input = input.to_vec();
+    let feeder = thread::spawn(move || {
+        for part in input.chunks(piece) {
+            pipe.write_all(part).expect("the program reads its input to the end");
+        }
+    });
+    let output = child.wait_with_output().expect("the program ends");
+    feeder.join().expect("all input was handed over");
+    assert!(output.status.success(), "the program's status is {}", output.status);
+    output.stdout
+}
+
+fn expected(input: &[u8]) -> Vec<u8> {
+    let mut out = Vec::new();
+    log::replay(input, &mut out).expect("a slice can be read");
+    out
+}
+
+/// Compares the two on one log, and names the first line that differs.
+fn compare(name: &str, input: &[u8], piece: usize) {
+    let (ours, theirs) = (replayed(input, piece), expected(input));
+    if ours == theirs {
+        return;
+    }
+    let differs = ours
+        .split(|&b| b == b'\n')
+        .zip(theirs.split(|&b| b == b'\n'))
+        .position(|(a, b)| a != b);
+    panic!("{name}: the outputs differ, first at line {differs:?} (from 0)");
+}
+
+fn make(profile: u8, stamp: u32) -> Record {
+    Record { kind: 0, priority: profile, ontime: 0, lifetime: 0, id: 0, stamp }
+}
+
+fn poll(stamp: u32) -> Record {
+    Record { kind: 3, ..make(0, stamp) }
+}
+
+/// A record that follows a stamp: mostly good, sometimes hostile.
+fn record(rng: &mut Rng, stamp: &mut u32) -> Record {
+    let steps = [0, 1, 500, 20_000, 49_600, 100_000, 1_000_000, 70_000_000, (1 << 31) - 1, 1 << 31, u32::MAX];
+    let step = if rng.one_in(40) { rng.pick(&steps) } else { rng.below(60_000) as u32 };
+    let next = stamp.wrapping_add(step);
+    if step < 1 << 31 {
+        *stamp = next;
+    }
+    let kind = if rng.one_in(300) { rng.below(256) as u8 } else { 1 + rng.below(3) as u8 };
+    let kind = if rng.one_in(4_000) { 0 } else { kind };
+    let priority = if rng.one_in(50) { rng.below(256) as u8 } else { rng.below(4) as u8 };
+    let ontime = if rng.one_in(30) { rng.next_u32() as u16 } else { 1 + rng.below(500) as u16 };
+    let lifetimes = [0, 1, 60_000_000, 60_000_001, u32::MAX];
+    let lifetime = if rng.one_in(30) { rng.pick(&lifetimes) } else { 1 + rng.below(3_000_000) as u32 };
+    let id = if kind == 1 && !rng.one_in(30) { rng.below(1_002) as u32 } else { rng.next_u32() };
+    Record { kind, priority, ontime, lifetime, id, stamp: next }
+}
+
+fn bytes(records: &[Record]) -> Vec<u8> {
+    records.iter().flat_map(Record::to_bytes).collect()
+}
+
+fn run(seed: u64, count: usize) -> Vec<u8> {
+    let mut rng = Rng::new(seed);
+    let mut stamp = rng.next_u32();
+    let mut records = vec![make(1 + rng.below(3) as u8, stamp)];
+    while records.len() < count {
+        records.push(record(&mut rng, &mut stamp));
+    }
+    bytes(&records)
+}
+
+#[test]
+fn random_logs() {
+    for seed in 1..=8 {
+        compare(&format!("seed {seed}"), &run(seed, 400_000), 1 << 16);
+    }
+}
+
+#[test]
+fn torn_tails_and_block_boundaries() {
+    for (seed, count) in [(20, 0), (21, 1), (22, 4_095), (23, 4_096), (24, 4_097), (25, 8_192)] {
+        let whole = if count == 0 { Vec::new() } else { run(seed, count) };
+        for left in 0..16 {
+            let mut input = whole.clone();
+            input.extend((0..left).map(|b| b as u8 * 17));
+            compare(&format!("{count} records and {left} bytes"), &input, 1 << 16);
+        }
+    }
+}
+
+#[test]
+fn odd_pieces() {
+    let input = run(31, 20_000);
+    for piece in [1, 7, 15, 17, 4_096, 65_535, 65_537] {
+        let input = if piece == 1 { &input[..40_003] } else { &input[..] };
+        compare(&format!("pieces of {piece}"), input, piece);
+    }
+}
+
+#[test]
+fn noise() {
+    for seed in 41..=48 {
+        let mut rng = Rng::new(seed);
+        let input: Vec<u8> = (0..100_000 + rng.below(64)).map(|_| rng.next_u64() as u8).collect();
+        compare(&format!("noise, seed {seed}"), &input, 4_099);
+    }
+}
+
+#[test]
+fn makes_again_and_refused_makes() {
+    let mut rng = Rng::new(51);
+    let mut stamp = 0;
+    let mut records = Vec::new();
+    for turn in 0..20_000 {
+        if turn % 20 == 0 {
+            records.push(make(rng.below(6) as u8, stamp));
+        }
+        records.push(record(&mut rng, &mut stamp));
+    }
+    compare("makes in mid-log, seed 51", &bytes(&records), 1 << 16);
+}
+
+#[test]
+fn to_the_end_of_time() {
+    let step = (1u32 << 31) - 1;
+    let mut stamp = 5u32;
+    let mut records = vec![make(3, stamp)];
+    for _ in 0..465_700 {
+        stamp = stamp.wrapping_add(step);
+        records.push(poll(stamp));
+    }
+    // The end lies within the last steps: polls of ever smaller steps find it to the microsecond.
+    for shift in 0..31 {
+        records.push(poll(stamp.wrapping_add(step >> shift)));
+        stamp = stamp.wrapping_add(step >> shift);
+    }
+    let mut rng = Rng::new(61);
+    for _ in 0..1_000 {
+        records.push(record(&mut rng, &mut stamp));
+    }
+    compare("running time to 10^15, seed 61", &bytes(&records), 1 << 16);
+}
