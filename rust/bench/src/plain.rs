@@ -42,10 +42,10 @@ pub struct State {
 #[derive(Clone, Copy)]
 pub enum Answer {
     Taken,
-    Sent(#[allow(dead_code)] Packet),
+    Sent(Packet),
     Idle,
-    Closed(#[allow(dead_code)] u64),
-    Refused(#[allow(dead_code)] u32),
+    Closed(u64),
+    Refused(u32),
 }
 
 const END: u64 = 1_000_000_000_000_000;
@@ -131,7 +131,8 @@ impl State {
         }
     }
 
-    fn is_sound(&self) -> bool {
+    /// The whole soundness test.
+    pub fn is_sound(&self) -> bool {
         let control = self.live == 1
             && (1..=3).contains(&self.profile)
             && self.level <= 4

@@ -2,6 +2,7 @@
 //! call, (b) in place with none. The three run the same row of calls in turn, and must end in the same state.
 
 #[path = "../plain.rs"]
+#[allow(dead_code)]
 mod plain;
 
 use std::hint::black_box;
