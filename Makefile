@@ -31,7 +31,7 @@ demo: demo-build
 	@echo 'Warning 101 came at 2.001 s and went at 2.050 s: 1.02 s after the packet before it. From there on a warning'
 	@echo 'goes each second, as one comes each second. What is less urgent has to wait, or expires.'
 	@echo
-	@echo 'Was all of it right? A book of the run, kept from calls and answers alone, says:'
+	@echo 'Was all of it right? A book of the run, kept from calls and answers alone, and a second program say:'
 	@echo
 	@$(CURLEW) check $(JAM).log target/demo/jam.out
 	@$(CURLEW) plot --title 'A jam: the channel is loud throughout' $(JAM).log target/demo/jam.out -o target/demo/jam.svg
