@@ -76,6 +76,7 @@ claims profile v j r =
       sound-throughout = r .sounds;
       time = r .tied .time;
       queues = r .tied .queues;
+      admissions = r .tied .newest;
       ceiling = λ from w. window from w (j .admissions) (r .tied .spaced);
       floor = λ stamp accepted some q. sends v j (r .tied) stamp (kept v (r .sounds)) some (rw (r .same) q) accepted;
       sent = λ stamp. carries v j (r .tied) stamp;

@@ -9,15 +9,11 @@ use Rattle.model.specs.declared.Last.{Last}
 use Rattle.model.specs.View.{View, yes}
 use Rattle.model.specs.Effects.{closed}
 use Rattle.model.specs.Journal.{Admission}
-use Rattle.model.specs.Claims.{All}
+use Rattle.model.specs.Claims.{All, Newest}
 use Rattle.model.proofs.Cases.{clash}
 use Rattle.model.proofs.Tests.{tested}
 use Rattle.model.proofs.Window.{Spaced, SpacedSoFar}
 use Rattle.model.proofs.Sound.{SoundView, last-allowed}
-
-abbrev pub Newest : Last → List Admission → Type 0
-Newest last [] = yes (last .any) ≡ false
-Newest last (a ∷ l) = (yes (last .any) ≡ true) × (last .at ≡ a .at) × (last .ontime ≡ a .ontime)
 
 module _ (v : View) (k : Keeps (v .control .profile)) where
   pub open-spaced : (l : List Admission) → SoundView v → Newest (v .last) l → SpacedSoFar l → closed v ≡ false

@@ -18,7 +18,7 @@ use Rattle.model.specs.Effects.{moved, keep, cleared, atBack, joined, ch
 use Rattle.model.specs.Refusals.{checks}
 use Rattle.model.specs.Gate.{call}
 use Rattle.model.specs.Journal.{Line, Journal, opened, turned, allStruck, written, lowest, topOf, top, sentOf, fed}
-use Rattle.model.specs.Claims.{All, packetOf, atPoll, DepartsInTurn}
+use Rattle.model.specs.Claims.{All, packetOf, atPoll, DepartsInTurn, Newest}
 use Rattle.model.proofs.Fours.{Fours}
 use Rattle.model.proofs.Window.{SpacedSoFar}
 use Rattle.model.proofs.Columns.{same-left, same-offer, choiceBy, same-choice}
@@ -26,7 +26,7 @@ use Rattle.model.proofs.Turns.{Turn, turn-picked, turn-written, Own, Le
 use Rattle.model.proofs.Refusals.{on-call}
 use Rattle.model.proofs.SoundQueues.{Queued}
 use Rattle.model.proofs.Sound.{SoundView, cleared-sound, chosen-queued, passed-time}
-use Rattle.model.proofs.Gaps.{Newest, open-spaced}
+use Rattle.model.proofs.Gaps.{open-spaced}
 
 pub record Tied (v : View) (j : Journal) : Type 0 where
   pub time : v .clock .time ≡ j .time

@@ -6,10 +6,11 @@ use mathlib.Core.List.{List, [], _∷_, _++_, map}
 use lib.ListN.{length}
 use Rattle.rules.specs.Limits.{spare, quiet}
 use Rattle.model.specs.declared.Packet.{Packet}
+use Rattle.model.specs.declared.Last.{Last}
 use Rattle.model.specs.declared.Answer.the-variants.{Ready, Sent}
 use Rattle.model.specs.Queues.{each}
 use Rattle.model.specs.Answers.{isRefused}
-use Rattle.model.specs.View.{View}
+use Rattle.model.specs.View.{View, yes}
 use Rattle.model.specs.Sound.{sound}
 use Rattle.model.specs.Calls.{Call, poll}
 use Rattle.model.specs.Gate.{make, call}
@@ -48,13 +49,19 @@ InTurn l (admission n) = n ≤ l .seen + suc (l .above)
 abbrev pub DepartsInTurn : Departure → Type 0
 DepartsInTurn d = d .line .packet .priority ≡ 0 → InTurn (d .line) (d .way)
 
+-- the last admission that a view has is the journal's newest
+abbrev pub Newest : Last → List Admission → Type 0
+Newest last [] = yes (last .any) ≡ false
+Newest last (a ∷ l) = (yes (last .any) ≡ true) × (last .at ≡ a .at) × (last .ontime ≡ a .ontime)
+
 -- v and j: the view and the journal at the end of a run of a profile, where one more poll may come
 pub record Claims (profile : ℕ) (v : View) (j : Journal) : Type 0 where
   -- no call of a run meets NO-STATE
   pub sound-throughout : sound v ≡ true
-  -- the run's time and queues are the journal's
+  -- the run's time, queues and admissions are the journal's
   pub time : v .clock .time ≡ j .time
   pub queues : v .queues ≡ each (map packetOf) (j .columns)
+  pub admissions : Newest (v .last) (j .admissions)
   -- the ceiling: in any window of w µs, 100 × air time admitted ≤ 3 w + 400,000
   pub ceiling : (from w : ℕ) → 100 * airTime from w (j .admissions) ≤ 3 * w + spare
   -- the floor: an accepted poll that finds an unexpired packet, the quiet time or more after every earlier admission, sends
