@@ -1,7 +1,6 @@
 // The call log: records to calls, answers to lines (document 01, "The call log and its program").
 ghost use mathlib.Core.Path.{_≡_};
-ghost use mathlib.Core.List.{_++_};
-ghost use Prim.Native.Nat.{_+_, _*_, _≤_, _<_, min};
+ghost use Prim.Native.Nat.{_+_, _≤_, _<_};
 ghost use lib.ListN.{length};
 ghost use Rattle.io.specs.Counts.{Counts};
 ghost use Rattle.gate.specs.Requests.{callOf};
@@ -11,7 +10,6 @@ ghost use Rattle.calllog.specs.Lines.{decimal, line, numbered, lineOf, l
 ghost use Rattle.calllog.specs.Buffers.{Put};
 ghost use Rattle.calllog.specs.Text.{stateFrom, linesFrom, recordsDone};
 use decide::Offer;
-use gate::Outcome;
 use gate::Request;
 use gate::State;
 use model::Answer;

@@ -1,13 +1,17 @@
 // A call log on standard input; one line a record on standard output, then END or TORN (document 01).
 // What is done to a block of records is proved in `calllog`. Here it is read and written.
+use calllog::LINE_ROOM;
+use calllog::RECORD_BYTES;
 use gate::State;
 use libc::STDIN_FILENO;
 use libc::STDOUT_FILENO;
 
 // 4,096 records, and room for a line of each. A block of whole records leaves no bytes over to carry along.
-const INPUT_BYTES: usize = 65536;
+const BLOCK: usize = 4096;
 
-const OUTPUT_BYTES: usize = 131072;
+const INPUT_BYTES: usize = BLOCK * RECORD_BYTES;
+
+const OUTPUT_BYTES: usize = BLOCK * LINE_ROOM;
 
 // What a turn leaves: the state, and whether there may be more to read.
 struct Progress {
