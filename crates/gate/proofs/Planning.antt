@@ -1,34 +1,35 @@
--- The plan of each request that nothing refuses, and what its parts may rely on: the state is sound, so its numbers are in range,
--- and they stay so at a later time.
+-- The plan made from a state's groups, and what its parts may rely on: the state is sound, so its numbers are in range, and they
+-- stay so at a later time.
 use Prim.Native.Nat.{ℕ, _+_, _*_, _≤_}
-use mathlib.Core.Path.{_≡_, refl, ap, sym, _∙_, subst⁻¹}
+use mathlib.Core.Path.{_≡_, refl, ap, sym, _∙_}
 use mathlib.Core.Bool.{Bool, true, false, cond, _&&_}
 use native.Mathlib.Omega.{arith}
 use lib.Dec.{leb, eqb, ltb}
-use borrow.Author.Tests.{ne-eqb, eq-eqb, leb-true, le-leb, ltb-false}
+use borrow.Author.Tests.{eqb-true, leb-true, le-leb, ltb-false}
 use Rattle.rules.specs.Profiles.{fullLoad}
 use Rattle.rules.specs.Clock.{endOfTime}
 use Rattle.rules.specs.Samples.{probes, badCount, loadOf}
-use Rattle.rules.proofs.Cases.{both}
+use Rattle.rules.proofs.Cases.{split, both}
 use Rattle.model.specs.declared.Last.{Last}
-use Rattle.model.specs.declared.Answer.the-variants.{Taken, Refused}
 use Rattle.model.specs.View.{yes}
 use Rattle.model.specs.Sound.{allOf, controlRules, lastRules, viewRules, sound}
-use Rattle.model.specs.Calls.{Call}
-use Rattle.model.specs.Effects.{stepped, sampled}
+use Rattle.model.specs.Effects.{stepped}
 use Rattle.model.specs.Refusals.{checks}
-use Rattle.decide.specs.declared.Offer.{Offer}
-use Rattle.decide.specs.declared.Edit.the-variants.{Keep, Push}
-use Rattle.decide.specs.declared.Plan.{Plan}
-use Rattle.decide.specs.Decisions.{packetOf}
-use Rattle.decide.specs.Plans.{plan, pollPlan}
+use Rattle.queue.specs.declared.Queue.{Queue}
+use Rattle.decide.specs.declared.Choice.{Choice}
+use Rattle.decide.specs.declared.Edit.{Edit}
+use Rattle.decide.specs.declared.Edit.the-variants.{Keep, Push, Pop}
+use Rattle.decide.specs.Plans.{edited, pollPlan}
 use Rattle.gate.specs.declared.State.{State}
+use Rattle.gate.specs.declared.Request.{Request}
 use Rattle.gate.specs.declared.Request.the-variants.{Count, Offered, Poll}
-use Rattle.gate.specs.Layout.{viewOf, LaidOut, allTidy, soundState}
-use Rattle.gate.specs.Requests.{callOf, refusalOn, chosenFrom}
-use Rattle.gate.specs.Plans.{acceptedPlan, planOn, Fits}
-use Rattle.gate.proofs.Judged.{passed}
-use Rattle.gate.proofs.Fitting.{plan-fits}
+use Rattle.gate.specs.Layout.{viewOf, allTidy, soundState}
+use Rattle.gate.specs.Requests.{callOf, refusalOn, searchesOn, chosenFrom}
+use Rattle.gate.specs.Plans.{acceptedPlan, planOn, requestPlan, planWith, GoodCount, Plannable, changesIn}
+use Rattle.gate.proofs.Judged.{sound-view, judged, passed}
+
+pub differ : false ≡ true → ⊥
+differ h = let z : _≡_ {A = ℕ} 0 1 = ap (λ (b : Bool). cond b 1 0) h in absurd (omega arith)
 
 -- what a sound state's groups keep
 view-tests : (s : State) → soundState s ≡ true → sound (viewOf s) ≡ true
@@ -66,32 +67,44 @@ pub good-load : (busy : ℕ) → busy ≤ 1000 → loadOf busy ≤ 1000000
 unfolding loadOf
 good-load busy h = omega arith
 
--- a plan that is the call's fits the state
-pub planned : (s : State) (c : Call) (p : Plan) → (refusalOn s c ≡ 0 → LaidOut s) → p ≡ planOn s c
-    → (p ≡ planOn s c) × ((refusalOn s c ≡ 0 → LaidOut s) × Fits s p)
-planned s c p k e = (e, (k, subst⁻¹ (Fits s) e (plan-fits s c k)))
+-- what planning relies on
+good-request : (s : State) (r : Request) (stamp : ℕ) → refusalOn s (callOf r stamp) ≡ 0 → GoodCount r
+good-request s (Count busy) stamp z = good-count s stamp busy z
+good-request s (Offered o) stamp z = tt
+good-request s Poll stamp z = tt
 
-pub planned-refused : (s : State) (c : Call) (n : ℕ) → n ≡ refusalOn s c → (n ≡ 0 → ⊥) → plan (s .clock) (s .control) (s .last) 0 0 Keep (Refused n) ≡ planOn s c
-unfolding planOn
-planned-refused s c n e h = rw (sym e, ne-eqb n 0 h)
+pub plannable : (s : State) (r : Request) (stamp : ℕ) → refusalOn s (callOf r stamp) ≡ 0 → Plannable (s .clock) (s .control) (s .last) r
+plannable s r stamp z =
+    let e = judged s (callOf r stamp) z .0 in
+    record { in-time = sound-view s e .time; steered = sound-control s e; lasting = sound-last s e; counted = good-request s r stamp z }
 
-accepted : (s : State) (c : Call) → refusalOn s c ≡ 0 → planOn s c ≡ acceptedPlan s c
-unfolding planOn
-accepted s c z = rw z
+-- a call that looks for a packet is not refused
+pub searches-zero : (n : ℕ) (r : Request) → searchesOn n r ≡ true → n ≡ 0
+unfolding searchesOn
+searches-zero n (Count busy) h = absurd (differ h)
+searches-zero n (Offered o) h = absurd (differ h)
+searches-zero n Poll h = eqb-true n 0 h
 
-pub planned-count : (s : State) (stamp busy : ℕ) → refusalOn s (callOf (Count busy) stamp) ≡ 0
-    → planOn s (callOf (Count busy) stamp) ≡ plan (stepped (s .clock) stamp) (sampled (s .control) (loadOf busy)) (s .last) 0 0 Keep Taken
-unfolding callOf acceptedPlan
-planned-count s stamp busy z = accepted s (callOf (Count busy) stamp) z
+-- the plan from the groups is the state's
+request-planned : (s : State) (r : Request) (stamp : ℕ) (x : Choice) → (searchesOn 0 r ≡ true → x ≡ chosenFrom (stepped (s .clock) stamp .time) 0 (s .queues))
+    → requestPlan (s .clock) (s .control) (s .last) r stamp x ≡ acceptedPlan s (callOf r stamp)
+unfolding requestPlan callOf acceptedPlan searchesOn
+request-planned s (Count busy) stamp x h = refl
+request-planned s (Offered o) stamp x h = refl
+request-planned s Poll stamp x h = ap (pollPlan (stepped (s .clock) stamp) (s .control) (s .last)) (h refl)
 
-pub planned-offer : (s : State) (stamp : ℕ) (o : Offer) → refusalOn s (callOf (Offered o) stamp) ≡ 0
-    → planOn s (callOf (Offered o) stamp)
-    ≡ plan (stepped (s .clock) stamp) (s .control) (s .last) 4 (o .priority) (Push (packetOf o (stepped (s .clock) stamp .time))) Taken
-unfolding callOf acceptedPlan
-planned-offer s stamp o z = accepted s (callOf (Offered o) stamp) z
+pub planned-with : (s : State) (r : Request) (stamp n : ℕ) (x : Choice) → n ≡ refusalOn s (callOf r stamp)
+    → (searchesOn n r ≡ true → x ≡ chosenFrom (stepped (s .clock) stamp .time) 0 (s .queues))
+    → planWith (s .clock) (s .control) (s .last) n r stamp x ≡ planOn s (callOf r stamp)
+unfolding planWith planOn
+planned-with s r stamp n x e h =
+    split (eqb n 0)
+    (λ z. rw (sym e, z) (request-planned s r stamp x (λ w. h (ap (λ (m : ℕ). searchesOn m r) (eqb-true n 0 z) ∙ w))))
+    (λ z. rw (sym e, z))
 
-pub planned-poll : (s : State) (stamp : ℕ) → refusalOn s (callOf Poll stamp) ≡ 0
-    → planOn s (callOf Poll stamp)
-    ≡ pollPlan (stepped (s .clock) stamp) (s .control) (s .last) (chosenFrom (stepped (s .clock) stamp .time) 0 (s .queues))
-unfolding callOf acceptedPlan
-planned-poll s stamp z = accepted s (callOf Poll stamp) z
+-- an edit that changes nothing
+pub left-alone : (e : Edit) (q : Queue) → changesIn e ≡ false → edited e q ≡ q
+unfolding changesIn edited
+left-alone Keep q h = refl
+left-alone (Push p) q h = absurd (differ (sym h))
+left-alone Pop q h = absurd (differ (sym h))

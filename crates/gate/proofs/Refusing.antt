@@ -7,12 +7,12 @@ use mathlib.Core.List.{List}
 use native.Mathlib.Omega.{arith}
 use lib.Dec.{ltb, leb, eqb}
 use lib.ListN.{length}
-use borrow.Author.Tests.{ltb-true, ltb-false, le-ltb, lt-ltb}
+use borrow.Author.Tests.{eqb-true, ltb-true, ltb-false, le-ltb, lt-ltb}
 use Rattle.rules.specs.Profiles.{ontimeAllowed}
 use Rattle.rules.specs.Clock.{stepOf, goesBack, passesEnd}
 use Rattle.rules.specs.Refusals.{firstOf}
 use Rattle.rules.specs.Samples.{badCount}
-use Rattle.rules.proofs.Cases.{split, both}
+use Rattle.rules.proofs.Cases.{split, on-cond, both}
 use Rattle.model.specs.declared.Packet.{Packet}
 use Rattle.model.specs.Queues.{each, column}
 use Rattle.model.specs.View.{View}
@@ -28,7 +28,7 @@ use Rattle.gate.specs.declared.State.{State}
 use Rattle.gate.specs.declared.Request.{Request}
 use Rattle.gate.specs.declared.Request.the-variants.{Count, Offered, Poll}
 use Rattle.gate.specs.Layout.{queueAt, listsOf, viewOf, allTidy, soundState}
-use Rattle.gate.specs.Requests.{callOf, refusalOn}
+use Rattle.gate.specs.Requests.{callOf, queueOf, ownRefusal, refusalWith, refusalOn}
 
 pub unsound-refused : (s : State) (c : Call) → soundState s ≡ false → refusalOn s c ≡ 9
 unfolding refusalOn
@@ -90,3 +90,39 @@ column-each f qs (suc (suc (suc (suc k)))) h = absurd (omega arith)
 pub full-column : (now : ℕ) (qs : List Queue) (k : ℕ) → k ≤ 3 → fullAt now (queueAt qs k) ≡ leb 5 (length (column k (each (keep now) (listsOf qs))))
 unfolding fullAt
 full-column now qs k h = ap (λ (l : List Packet). leb 5 (length l)) (column-each (keep now) qs k h)
+
+-- the refusal from a state's parts is the state's
+own-refused : (s : State) (r : Request) (stamp : ℕ)
+    → firstOf (ownChecks (viewOf s) (callOf r stamp))
+    ≡ ownRefusal (s .control .profile) (queueAt (s .queues) (queueOf r)) (stepped (s .clock) stamp .time) r
+unfolding ownRefusal queueOf
+own-refused s (Count busy) stamp = count-refused (viewOf s) stamp busy
+own-refused s Poll stamp = poll-refused (viewOf s) stamp
+own-refused s (Offered o) stamp =
+    offer-refused (viewOf s) stamp o
+    ∙ split (eqb n 0)
+    (λ e. rw (e, le-ltb 3 (o .priority) (low e), full-column now (s .queues) (o .priority) (low e)))
+    (λ e. rw e)
+  where
+    n : ℕ
+    n = firstOf (offerChecks (s .control .profile) o)
+
+    now : ℕ
+    now = stepped (s .clock) stamp .time
+
+    low : eqb n 0 ≡ true → o .priority ≤ 3
+    low e = low-priority (s .control .profile) o (eqb-true n 0 e)
+
+pub refused-with : (s : State) (r : Request) (stamp : ℕ)
+    → refusalWith (soundState s) (s .clock) (s .control .profile) (queueAt (s .queues) (queueOf r)) r stamp ≡ refusalOn s (callOf r stamp)
+unfolding refusalWith
+refused-with s r stamp =
+    split (soundState s)
+    (λ e. rw e (rw (sym (own-refused s r stamp)) (sym (sound-refused s r stamp e))))
+    (λ e. rw e (sym (unsound-refused s (callOf r stamp) e)))
+
+pub queue-of-le : (r : Request) → queueOf r ≤ 3
+unfolding queueOf
+queue-of-le (Count busy) = omega arith
+queue-of-le (Offered o) = on-cond (λ (k : ℕ). k ≤ 3) (ltb 3 (o .priority)) (λ e. omega arith) (λ e. ltb-false 3 (o .priority) e)
+queue-of-le Poll = omega arith

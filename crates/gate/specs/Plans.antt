@@ -1,21 +1,30 @@
 -- The plan of a call on a state, and what doing it gives.
 use Prim.Native.Nat.{ℕ, _≤_, _<_}
 use mathlib.Core.Path.{_≡_}
-use mathlib.Core.Bool.{true, cond}
+use mathlib.Core.Bool.{Bool, true, false, cond}
 use mathlib.Core.List.{List, _++_, map}
 use lib.Dec.{eqb}
 use lib.ListN.{take, drop, set}
 use Rattle.rules.specs.Samples.{loadOf, probes, busyOf}
+use Rattle.model.specs.declared.Clock.{Clock}
+use Rattle.model.specs.declared.Control.{Control}
+use Rattle.model.specs.declared.Last.{Last}
 use Rattle.model.specs.declared.Answer.the-variants.{Taken, Refused}
+use Rattle.model.specs.Sound.{allOf, controlRules, lastRules}
 use Rattle.model.specs.Calls.{Call, words, count, offer, poll}
 use Rattle.model.specs.Effects.{stepped, sampled}
 use Rattle.queue.specs.declared.Queue.{Queue}
 use Rattle.queue.specs.Layout.{cleared}
-use Rattle.decide.specs.declared.Edit.the-variants.{Keep, Push}
+use Rattle.decide.specs.declared.Choice.{Choice}
+use Rattle.decide.specs.declared.Edit.{Edit}
+use Rattle.decide.specs.declared.Edit.the-variants.{Keep, Push, Pop}
 use Rattle.decide.specs.declared.Plan.{Plan}
+use Rattle.decide.specs.Decisions.{packetOf}
 use Rattle.decide.specs.Plans.{edited, EditFits, plan, pollPlan}
 use Rattle.gate.specs.declared.State.{State}
 use Rattle.gate.specs.declared.Outcome.{Outcome}
+use Rattle.gate.specs.declared.Request.{Request}
+use Rattle.gate.specs.declared.Request.the-variants.{Count, Offered, Poll}
 use Rattle.gate.specs.Layout.{queueAt, LaidOut, soundState, gives}
 use Rattle.gate.specs.Requests.{refusalOn, chosenFrom}
 
@@ -37,9 +46,39 @@ planOn s c =
     cond (eqb (refusalOn s c) 0) (acceptedPlan s c)
     (plan (s .clock) (s .control) (s .last) 0 0 Keep (Refused (refusalOn s c)))
 
+-- the same plan, from the number that refuses the call, or 0, the state's groups and the packet that was found
+unfoldable pub requestPlan : Clock → Control → Last → Request → ℕ → Choice → Plan
+requestPlan given control last (Count busy) stamp choice =
+    plan (stepped given stamp) (sampled control (loadOf busy)) last 0 0 Keep Taken
+requestPlan given control last (Offered o) stamp choice =
+    plan (stepped given stamp) control last 4 (o .priority) (Push (packetOf o (stepped given stamp .time))) Taken
+requestPlan given control last Poll stamp choice = pollPlan (stepped given stamp) control last choice
+
+unfoldable pub planWith : Clock → Control → Last → ℕ → Request → ℕ → Choice → Plan
+planWith given control last number request stamp choice =
+    cond (eqb number 0) (requestPlan given control last request stamp choice) (plan given control last 0 0 Keep (Refused number))
+
+-- what planning relies on where nothing refuses the call
+abbrev pub GoodCount : Request → Type 0
+GoodCount (Count busy) = busy ≤ 1000
+GoodCount (Offered o) = Unit {0}
+GoodCount Poll = Unit {0}
+
+pub record Plannable (given : Clock) (control : Control) (last : Last) (request : Request) : Type 0 where
+  pub in-time : given .time ≤ 1000000000000000
+  pub steered : allOf (controlRules control) ≡ true
+  pub lasting : allOf (lastRules (control .profile) (given .time) last) ≡ true
+  pub counted : GoodCount request
+
 -- the first n queues without their expired packets
 unfoldable pub clearedTo : ℕ → ℕ → List Queue → List Queue
 clearedTo n now qs = map (cleared now) (take n qs) ++ drop n qs
+
+-- whether an edit changes its queue
+unfoldable pub changesIn : Edit → Bool
+changesIn Keep = false
+changesIn (Push p) = true
+changesIn Pop = true
 
 -- a plan done
 unfoldable pub done : State → Plan → Outcome

@@ -1,8 +1,11 @@
 -- What the inner functions of a call decide on a state: refusal and choice.
 use Prim.Native.Nat.{ℕ, _+_}
-use mathlib.Core.Bool.{Bool, true, cond, _&&_}
+use mathlib.Core.Bool.{Bool, true, false, cond, _&&_}
 use mathlib.Core.List.{List, [], _∷_}
+use lib.Dec.{ltb, eqb}
+use Rattle.rules.specs.Clock.{stepOf, goesBack, passesEnd}
 use Rattle.rules.specs.Refusals.{firstOf}
+use Rattle.rules.specs.Samples.{badCount}
 use Rattle.model.specs.declared.Packet.{Packet}
 use Rattle.model.specs.declared.Clock.{Clock}
 use Rattle.model.specs.declared.Control.{Control}
@@ -10,9 +13,10 @@ use Rattle.model.specs.Queues.{noneOf}
 use Rattle.model.specs.View.{View}
 use Rattle.model.specs.Calls.{Call, count, offer, poll}
 use Rattle.model.specs.Refusals.{checks}
-use Rattle.model.specs.Effects.{keep}
+use Rattle.model.specs.Effects.{stepped, keep}
 use Rattle.queue.specs.declared.Queue.{Queue}
-use Rattle.queue.specs.Layout.{items, soundQueue}
+use Rattle.queue.specs.Layout.{items, soundQueue, fullAt}
+use Rattle.decide.specs.Decisions.{offerChecks}
 use Rattle.decide.specs.declared.Choice.{Choice}
 use Rattle.decide.specs.declared.Choice.the-variants.{Nothing, Next}
 use Rattle.gate.specs.declared.State.{State}
@@ -35,6 +39,26 @@ soundQueues profile now k (q ∷ qs) = soundQueue profile now k q && soundQueues
 unfoldable pub refusalOn : State → Call → ℕ
 refusalOn s c = cond (soundState s) (firstOf (checks (viewOf s) c)) 9
 
+-- the queue that a request looks into
+unfoldable pub queueOf : Request → ℕ
+queueOf (Count busy) = 0
+queueOf (Offered o) = cond (ltb 3 (o .priority)) 0 (o .priority)
+queueOf Poll = 0
+
+-- the same number, from whether the state is sound, its clock and profile, and that queue
+unfoldable pub ownRefusal : ℕ → Queue → ℕ → Request → ℕ
+ownRefusal profile q now (Count busy) = cond (badCount busy) 4 0
+ownRefusal profile q now (Offered o) =
+    cond (eqb (firstOf (offerChecks profile o)) 0) (cond (fullAt now q) 8 0) (firstOf (offerChecks profile o))
+ownRefusal profile q now Poll = 0
+
+unfoldable pub refusalWith : Bool → Clock → ℕ → Queue → Request → ℕ → ℕ
+refusalWith isSound given profile q request stamp =
+    cond isSound
+    (cond (goesBack (stepOf stamp (given .stamp))) 2
+    (cond (passesEnd (stepped given stamp .time)) 3 (ownRefusal profile q (stepped given stamp .time) request)))
+    9
+
 -- the first live packet of a queue, or what the queues after it give
 unfoldable pub firstOr : ℕ → List Packet → Choice → Choice
 firstOr k [] rest = rest
@@ -44,6 +68,12 @@ firstOr k (p ∷ ps) rest = Next k p
 unfoldable pub chosenFrom : ℕ → ℕ → List Queue → Choice
 chosenFrom now k [] = Nothing
 chosenFrom now k (q ∷ qs) = firstOr k (keep now (items q)) (chosenFrom now (k + 1) qs)
+
+-- whether a call looks for a packet that may go, by the number that refuses it, or 0
+unfoldable pub searchesOn : ℕ → Request → Bool
+searchesOn number (Count busy) = false
+searchesOn number (Offered o) = false
+searchesOn number Poll = eqb number 0
 
 -- a view with nothing waiting and nothing admitted
 abbrev pub blankView : ℕ → Clock → Control → View

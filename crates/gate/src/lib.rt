@@ -2,9 +2,11 @@
 ghost use mathlib.Core.Path.{_≡_};
 ghost use mathlib.Core.Bool.{true};
 ghost use Rattle.model.specs.Calls.{words, count, offer, poll};
+ghost use Prim.Native.Nat.{_≤_};
+ghost use Rattle.queue.specs.Layout.{Packed};
 ghost use Rattle.gate.specs.Layout.{viewOf, stateOf, LaidOut, soundState, callOn, makeState};
-ghost use Rattle.gate.specs.Requests.{callOf, refusalOn, chosenFrom, blankView};
-ghost use Rattle.gate.specs.Plans.{planOn, Fits};
+ghost use Rattle.gate.specs.Requests.{callOf, queueOf, refusalWith, searchesOn, chosenFrom, blankView};
+ghost use Rattle.gate.specs.Plans.{Plannable, planWith, changesIn};
 ghost use Rattle.gate.specs.Runs.{Runs};
 use decide::Choice;
 use decide::Edit;
@@ -38,6 +40,137 @@ pub enum Request {
     Count(u32),
     Offered(Offer),
     Poll,
+}
+
+// The queue that a request looks into: its own for an offer of one of the four priorities, else the first.
+fn queue_of(request: Request) -> usize
+    ensures { λ r. ⌜ r ≡ queueOf request ⌝ }
+{
+    match request {
+        Request::Count(_) => 0,
+        Request::Offered(o) => {
+            if 3 < o.priority {
+                return 0;
+            }
+            o.priority as usize
+        }
+        Request::Poll => 0,
+    }
+}
+
+// The number of the first check that holds, or 0: 9, 2, 3, then 4 or 5 to 8. The queue is the one that the request looks into.
+fn refusal(sound: bool, given: Clock, profile: u32, q: Queue, request: Request, stamp: u32) -> u32
+    requires { ⌜ (sound ≡ true → (given .time ≤ 1000000000000000) × Packed q) ⌝ }
+    ensures { λ r. ⌜ r ≡ refusalWith sound given profile q request stamp ⌝ }
+{
+    if !sound {
+        return 9;
+    }
+    if rules::goes_back(rules::step(stamp, given.stamp)) {
+        return 2;
+    }
+    let clock = decide::clock_at(given, stamp);
+    if rules::passes_end(clock.time) {
+        return 3;
+    }
+    match request {
+        Request::Count(busy) => {
+            if rules::is_bad_count(busy) {
+                return 4;
+            }
+            0
+        }
+        Request::Offered(o) => {
+            let number = decide::offer_refusal(profile, o);
+            if number != 0 {
+                return number;
+            }
+            if queue::is_full(q, clock.time) {
+                return 8;
+            }
+            0
+        }
+        Request::Poll => 0,
+    }
+}
+
+// Whether a call looks for a packet that may go: a poll that nothing refuses.
+fn searches(number: u32, request: Request) -> bool
+    ensures { λ r. ⌜ r ≡ searchesOn number request ⌝ }
+{
+    if number != 0 {
+        return false;
+    }
+    match request {
+        Request::Count(_) => false,
+        Request::Offered(_) => false,
+        Request::Poll => true,
+    }
+}
+
+// What a call is to do, from the number that refuses it, or 0, and the packet that it found.
+fn plan_with(
+    given: Clock,
+    control: Control,
+    last: Last,
+    number: u32,
+    request: Request,
+    stamp: u32,
+    choice: Choice,
+) -> Plan
+    requires { ⌜ (number ≡ 0 → Plannable given control last request) ⌝ }
+    ensures { λ r. ⌜ r ≡ planWith given control last number request stamp choice ⌝ }
+{
+    if number != 0 {
+        return Plan {
+            clock: given,
+            control,
+            last,
+            clears: 0,
+            at: 0,
+            edit: Edit::Keep,
+            answer: Answer::Refused(number),
+        };
+    }
+    let clock = decide::clock_at(given, stamp);
+    match request {
+        Request::Count(busy) => {
+            let next = decide::control_after(control, rules::load(busy));
+            Plan {
+                clock,
+                control: next,
+                last,
+                clears: 0,
+                at: 0,
+                edit: Edit::Keep,
+                answer: Answer::Taken,
+            }
+        }
+        Request::Offered(o) => {
+            let p = decide::packet_of(o, clock.time);
+            Plan {
+                clock,
+                control,
+                last,
+                clears: 4,
+                at: o.priority as usize,
+                edit: Edit::Push(p),
+                answer: Answer::Taken,
+            }
+        }
+        Request::Poll => decide::plan_poll(clock, control, last, choice),
+    }
+}
+
+// Whether an edit changes its queue.
+fn changes(edit: Edit) -> bool
+    ensures { λ r. ⌜ r ≡ changesIn edit ⌝ }
+{
+    match edit {
+        Edit::Keep => false,
+        Edit::Push(_) => true,
+        Edit::Pop => true,
+    }
 }
 
 impl State {
@@ -74,45 +207,6 @@ impl State {
         true
     }
 
-    // The number of the first check that holds, or 0: 9, 2, 3, then 4 or 5 to 8.
-    fn refusal(self, request: Request, stamp: u32) -> u32
-        ensures exact { λ r. ⌜ r ≡ refusalOn self (callOf request stamp) ⌝ }
-        ensures tight { λ r. ⌜ (r ≡ 0 → LaidOut self) ⌝ }
-    {
-        if !self.is_sound() {
-            return 9;
-        }
-        let given = self.clock;
-        if rules::goes_back(rules::step(stamp, given.stamp)) {
-            return 2;
-        }
-        let clock = decide::clock_at(given, stamp);
-        if rules::passes_end(clock.time) {
-            return 3;
-        }
-        match request {
-            Request::Count(busy) => {
-                if rules::is_bad_count(busy) {
-                    return 4;
-                }
-                0
-            }
-            Request::Offered(o) => {
-                let number = decide::offer_refusal(self.control.profile, o);
-                if number != 0 {
-                    return number;
-                }
-                let k = o.priority as usize;
-                let q = self.queues[k];
-                if queue::is_full(q, clock.time) {
-                    return 8;
-                }
-                0
-            }
-            Request::Poll => 0,
-        }
-    }
-
     // The first live packet of the lowest-numbered queue that has one.
     fn choose(self, now: u64) -> Choice
         requires { ⌜ LaidOut self ⌝ }
@@ -138,87 +232,46 @@ impl State {
         found
     }
 
-    // What a call is to do.
-    fn plan(self, request: Request, stamp: u32) -> Plan
-        ensures exact { λ r. ⌜ r ≡ planOn self (callOf request stamp) ⌝ }
-        ensures laid { λ r. ⌜ (refusalOn self (callOf request stamp) ≡ 0 → LaidOut self) ⌝ }
-        ensures fits { λ r. ⌜ Fits self r ⌝ }
-    {
-        let number = self.refusal(request, stamp);
-        let given = self.clock;
-        let control = self.control;
-        let last = self.last;
-        if number != 0 {
-            return Plan {
-                clock: given,
-                control,
-                last,
-                clears: 0,
-                at: 0,
-                edit: Edit::Keep,
-                answer: Answer::Refused(number),
-            };
-        }
-        let clock = decide::clock_at(given, stamp);
-        match request {
-            Request::Count(busy) => {
-                let next = decide::control_after(control, rules::load(busy));
-                Plan {
-                    clock,
-                    control: next,
-                    last,
-                    clears: 0,
-                    at: 0,
-                    edit: Edit::Keep,
-                    answer: Answer::Taken,
-                }
-            }
-            Request::Offered(o) => {
-                let p = decide::packet_of(o, clock.time);
-                Plan {
-                    clock,
-                    control,
-                    last,
-                    clears: 4,
-                    at: o.priority as usize,
-                    edit: Edit::Push(p),
-                    answer: Answer::Taken,
-                }
-            }
-            Request::Poll => {
-                let choice = self.choose(clock.time);
-                decide::plan_poll(clock, control, last, choice)
-            }
-        }
-    }
-
     // One call: what it is to do is decided first, then done in place.
     pub fn step(mut self, request: Request, stamp: u32) -> Outcome
         ensures { λ r. ⌜ r ≡ callOn self (callOf request stamp) ⌝ }
     {
-        let plan = self.plan(request, stamp);
+        let given = self.clock;
+        let control = self.control;
+        let last = self.last;
+        let sound = self.is_sound();
+        let k = queue_of(request);
+        let q = self.queues[k];
+        let number = refusal(sound, given, control.profile, q, request, stamp);
+        let mut choice = Choice::Nothing;
+        if searches(number, request) {
+            let clock = decide::clock_at(given, stamp);
+            choice = self.choose(clock.time);
+        }
+        let plan = plan_with(given, control, last, number, request, stamp, choice);
         let clock = plan.clock;
         self.clock = clock;
         let control = plan.control;
         self.control = control;
         let last = plan.last;
         self.last = last;
-        let now = clock.time;
         let n = plan.clears;
         let mut i: usize = 0;
         while i < n {
             let q = self.queues[i];
-            if queue::has_expired(q, now) {
-                let e = queue::rebuild(q, now);
+            if queue::has_expired(q, clock.time) {
+                let e = queue::rebuild(q, clock.time);
                 self.queues[i] = e;
             }
             i += 1;
         }
-        let k = plan.at;
-        let q = self.queues[k];
         let edit = plan.edit;
-        let e = decide::edit_queue(q, edit);
-        self.queues[k] = e;
+        if changes(edit) {
+            let k = plan.at;
+            let q = self.queues[k];
+            let e = decide::edit_queue(q, edit);
+            self.queues[k] = e;
+        }
         let answer = plan.answer;
         Outcome {
             state: self,

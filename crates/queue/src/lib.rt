@@ -49,16 +49,8 @@ pub fn is_packet_sound(p: Packet, profile: u32, now: u64, priority: u32, since: 
 pub fn is_zero(p: Packet) -> bool
     ensures { λ r. ⌜ r ≡ isZero p ⌝ }
 {
-    if p.id != 0 {
-        return false;
-    }
-    if p.priority != 0 {
-        return false;
-    }
-    if p.ontime != 0 {
-        return false;
-    }
-    if p.lifetime != 0 {
+    let sum = p.id as u64 + p.priority as u64 + p.ontime as u64 + p.lifetime as u64;
+    if sum != 0 {
         return false;
     }
     p.arrival == 0
