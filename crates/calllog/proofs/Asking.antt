@@ -4,7 +4,7 @@ use mathlib.Core.Path.{_≡_, ap}
 use native.Mathlib.Omega.{arith}
 use borrow.Author.Tests.{ne-eqb}
 use Rattle.model.specs.declared.Answer.the-variants.{Refused}
-use Rattle.model.specs.Calls.{Call, count, offer, poll}
+use Rattle.model.specs.State.{Call, count, offer, poll}
 use Rattle.gate.specs.declared.State.{State}
 use Rattle.gate.specs.Layout.{gives, callOn, makeState}
 use Rattle.calllog.specs.declared.Record.{Record}

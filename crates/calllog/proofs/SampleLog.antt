@@ -7,10 +7,9 @@ use Rattle.rules.specs.Clock.{stepOf, goesBack, passesEnd}
 use Rattle.rules.specs.Refusals.{firstOf}
 use Rattle.rules.specs.Levels.{waitBy}
 use Rattle.rules.specs.Wait.{waitOf}
-use Rattle.model.specs.Sound.{inOrder, queueSound, sound}
+use Rattle.model.specs.State.{inOrder, queueSound, sound}
 use Rattle.model.specs.Effects.{keep, choice, closed, effect}
-use Rattle.model.specs.Refusals.{checks}
-use Rattle.model.specs.Gate.{make, call}
+use Rattle.model.specs.Gate.{checks, make, call}
 use Rattle.queue.specs.Layout.{tidy, packed, allZero, filled}
 use Rattle.gate.specs.Layout.{soundState, callOn, makeState}
 use Rattle.calllog.specs.Records.{twoAt, fourAt, recordAt, askedBy}

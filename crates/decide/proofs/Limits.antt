@@ -2,13 +2,13 @@
 use Prim.Native.Nat.{ℕ, _≤_}
 use mathlib.Core.Path.{_≡_}
 use mathlib.Core.Bool.{true}
+use lib.Dec.{eqb}
 use borrow.Author.Tests.{leb-true}
 use Rattle.rules.specs.Profiles.{profile3, fullLoad, topLevel}
 use Rattle.rules.proofs.Profiles.{ontime-le, duty-within}
 use Rattle.model.specs.declared.Control.{Control}
 use Rattle.model.specs.declared.Last.{Last}
-use Rattle.model.specs.View.{yes}
-use Rattle.model.specs.Sound.{allOf, controlRules, lastRules}
+use Rattle.model.specs.State.{allOf, controlRules, lastRules}
 use Rattle.model.proofs.Tests.{AllTrue, all-true}
 
 -- what samples steer
@@ -36,5 +36,5 @@ module _ (profile now : ℕ) (l : Last) (sound : allOf (lastRules profile now l)
   pub at-le : l .at ≤ now
   at-le = leb-true _ _ (search rules-of-last)
 
-  pub last-ontime-le : yes (l .any) ≡ true → l .ontime ≤ profile3 .ontime
+  pub last-ontime-le : eqb (l .any) 1 ≡ true → l .ontime ≤ profile3 .ontime
   last-ontime-le some = ontime-le profile (l .ontime) (rw some at (rules-of-last .1 .1 .0))

@@ -2,15 +2,13 @@
 use Prim.Native.Nat.{ℕ, _-_}
 use mathlib.Core.Bool.{cond, not}
 use mathlib.Core.List.{List, [], _∷_}
-use lib.Dec.{ltb}
-use Rattle.rules.specs.Profiles.{ontimeAllowed}
+use lib.Dec.{ltb, eqb}
+use Rattle.rules.specs.Profiles.{ontimeAllowed, lifetimeAllowed}
 use Rattle.rules.specs.Refusals.{Check, check}
 use Rattle.rules.specs.Wait.{waitOf}
 use Rattle.model.specs.declared.Packet.{Packet}
 use Rattle.model.specs.declared.Control.{Control}
 use Rattle.model.specs.declared.Last.{Last}
-use Rattle.model.specs.View.{yes}
-use Rattle.model.specs.Sound.{lifetimeAllowed}
 use Rattle.decide.specs.declared.Offer.{Offer}
 
 -- the packet of an offer that comes now
@@ -28,4 +26,4 @@ offerChecks profile o =
 
 -- the µs left at a time, 0 where the gate is not closed
 unfoldable pub leftAt : Control → Last → ℕ → ℕ
-leftAt k l now = cond (yes (l .any)) (waitOf (k .profile) (k .level) (k .duty) (l .ontime) - (now - l .at)) 0
+leftAt k l now = cond (eqb (l .any) 1) (waitOf (k .profile) (k .level) (k .duty) (l .ontime) - (now - l .at)) 0

@@ -3,7 +3,7 @@ ghost use mathlib.Core.Path.{_≡_};
 ghost use mathlib.Core.Bool.{true};
 ghost use Prim.Native.Nat.{_≤_};
 ghost use Rattle.rules.specs.Refusals.{firstOf};
-ghost use Rattle.model.specs.Sound.{allOf, controlRules, lastRules};
+ghost use Rattle.model.specs.State.{allOf, controlRules, lastRules};
 ghost use Rattle.model.specs.Effects.{stepped, sampled};
 ghost use Rattle.decide.specs.Decisions.{offerChecks, packetOf, leftAt};
 ghost use Rattle.decide.specs.Plans.{edited, EditFits, pollPlan};

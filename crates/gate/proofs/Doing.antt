@@ -15,15 +15,11 @@ use Rattle.model.specs.declared.Packet.{Packet}
 use Rattle.model.specs.declared.Clock.{Clock}
 use Rattle.model.specs.declared.Answer.{Answer}
 use Rattle.model.specs.declared.Answer.the-variants.{Taken, Sent, Idle, Closed, Refused}
-use Rattle.model.specs.Queues.{Four, each, column, change}
-use Rattle.model.specs.Answers.{isRefused}
-use Rattle.model.specs.View as view
-use Rattle.model.specs.View.{View, yes}
-use Rattle.model.specs.Sound.{room}
-use Rattle.model.specs.Calls.{Call, words, count, offer, poll, stampOf}
+use Rattle.model.specs.State.{Four, each, column, change, isRefused, View, Call, words, count, offer, poll, stampOf}
+use Rattle.model.specs.State as view
+use Rattle.rules.specs.Profiles.{room}
 use Rattle.model.specs.Effects.{stepped, cleared, keep, atBack, choice, closed, waitNow, sinceLast, polled, effect}
-use Rattle.model.specs.Refusals.{checks}
-use Rattle.model.specs.Gate.{call}
+use Rattle.model.specs.Gate.{checks, call}
 use Rattle.model.proofs.Refusals.{effect-accepts, numbered}
 use Rattle.queue.specs.declared.Queue.{Queue}
 use Rattle.queue.specs.Layout.{packed, Packed, pushed, popped}
@@ -101,12 +97,12 @@ poll-done v stamp (Next k p) h = split (closed w) shut open-up
 
     shut : closed w ≡ true → done (stateOf v) (pollPlan (stepped (v .clock) stamp) (v .control) (v .last) (Next k p)) ≡ laid (polled w (meant (w .queues) (Next k p)))
     shut e =
-        let f = left-closed (yes (v .last .any)) (sinceLast w) (waitNow w) e in
+        let f = left-closed (eqb (v .last .any) 1) (sinceLast w) (waitNow w) e in
         rw (f .0, f .1, e) (only-cleared v (plan (stepped (v .clock) stamp) (v .control) (v .last) 4 0 Keep (Closed (waitNow w - sinceLast w))) refl refl)
 
     open-up : closed w ≡ false → done (stateOf v) (pollPlan (stepped (v .clock) stamp) (v .control) (v .last) (Next k p)) ≡ laid (polled w (meant (w .queues) (Next k p)))
     open-up e =
-        rw (left-open (yes (v .last .any)) (sinceLast w) (waitNow w) e, e)
+        rw (left-open (eqb (v .last .any) 1) (sinceLast w) (waitNow w) e, e)
         (edits v (plan (stepped (v .clock) stamp) (v .control) (record { at = w .clock .time; ontime = p .ontime; any = 1 }) 4 k Pop (Sent p)) (drop 1) refl h pop-edits)
 
 -- an accepted plan done is the call's effect

@@ -10,12 +10,10 @@ use borrow.Author.Tests.{eqb-true, ltb-false, leb-false}
 use Rattle.rules.specs.Refusals.{NoneHolds}
 use Rattle.rules.proofs.Cases.{on-cond}
 use Rattle.model.specs.declared.Packet.{Packet}
-use Rattle.model.specs.Queues.{Four, each, column}
-use Rattle.model.specs.View.{View}
-use Rattle.model.specs.Sound.{room}
-use Rattle.model.specs.Calls.{Call, words, count, offer, poll}
+use Rattle.model.specs.State.{Four, each, column, View, Call, words, count, offer, poll}
+use Rattle.rules.specs.Profiles.{room}
 use Rattle.model.specs.Effects.{stepped, keep}
-use Rattle.model.specs.Refusals.{checks}
+use Rattle.model.specs.Gate.{checks}
 use Rattle.queue.specs.declared.Queue.{Queue}
 use Rattle.queue.specs.Layout.{packed, Packed}
 use Rattle.queue.proofs.Packing.{packed-Packed}

@@ -11,10 +11,9 @@ use Rattle.rules.specs.Clock.{endOfTime}
 use Rattle.rules.specs.Samples.{probes, badCount, loadOf}
 use Rattle.rules.proofs.Cases.{split, both}
 use Rattle.model.specs.declared.Last.{Last}
-use Rattle.model.specs.View.{yes}
-use Rattle.model.specs.Sound.{allOf, controlRules, lastRules, viewRules, sound}
+use Rattle.model.specs.State.{allOf, controlRules, lastRules, viewRules, sound}
 use Rattle.model.specs.Effects.{stepped}
-use Rattle.model.specs.Refusals.{checks}
+use Rattle.model.specs.Gate.{checks}
 use Rattle.queue.specs.declared.Queue.{Queue}
 use Rattle.decide.specs.declared.Choice.{Choice}
 use Rattle.decide.specs.declared.Edit.{Edit}
@@ -41,7 +40,7 @@ second u v rest e = both v rest (both u (v && rest) e .1) .0
 
 pub sound-control : (s : State) → soundState s ≡ true → allOf (controlRules (s .control)) ≡ true
 unfolding sound
-sound-control s e = second (yes (s .live)) (allOf (controlRules (s .control))) _ (view-tests s e)
+sound-control s e = second (eqb (s .live) 1) (allOf (controlRules (s .control))) _ (view-tests s e)
 
 fourth : (t u v w rest : Bool) → t && (u && (v && (w && rest))) ≡ true → w ≡ true
 fourth t u v w rest e = second v w rest (both u (v && (w && rest)) (both t (u && (v && (w && rest))) e .1) .1)
@@ -49,7 +48,7 @@ fourth t u v w rest e = second v w rest (both u (v && (w && rest)) (both t (u &&
 pub sound-last : (s : State) → soundState s ≡ true → allOf (lastRules (s .control .profile) (s .clock .time) (s .last)) ≡ true
 unfolding sound
 sound-last s e =
-    fourth (yes (s .live)) (allOf (controlRules (s .control))) (leb (s .clock .time) endOfTime)
+    fourth (eqb (s .live) 1) (allOf (controlRules (s .control))) (leb (s .clock .time) endOfTime)
     (allOf (lastRules (s .control .profile) (s .clock .time) (s .last))) _ (view-tests s e)
 
 -- a last admission that is sound stays so

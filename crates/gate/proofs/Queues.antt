@@ -6,7 +6,7 @@ use mathlib.Core.List.{List, [], _∷_}
 use native.Mathlib.Omega.{arith}
 use lib.ListN.{length, drop, set}
 use Rattle.model.specs.declared.Packet.{Packet}
-use Rattle.model.specs.Queues.{Four, each, column, change}
+use Rattle.model.specs.State.{Four, each, column, change}
 use Rattle.model.specs.Effects.{keep}
 use Rattle.queue.specs.declared.Queue.{Queue}
 use Rattle.queue.specs.Layout.{items, packed, Packed, anyExpired, cleared, popped}

@@ -8,18 +8,15 @@ use native.Mathlib.Omega.{arith}
 use lib.Dec.{ltb, leb, eqb}
 use lib.ListN.{length}
 use borrow.Author.Tests.{eqb-true, ltb-true, ltb-false, le-ltb, lt-ltb}
-use Rattle.rules.specs.Profiles.{ontimeAllowed}
+use Rattle.rules.specs.Profiles.{ontimeAllowed, lifetimeAllowed}
 use Rattle.rules.specs.Clock.{stepOf, goesBack, passesEnd}
 use Rattle.rules.specs.Refusals.{firstOf}
 use Rattle.rules.specs.Samples.{badCount}
 use Rattle.rules.proofs.Cases.{split, on-cond, both}
 use Rattle.model.specs.declared.Packet.{Packet}
-use Rattle.model.specs.Queues.{each, column}
-use Rattle.model.specs.View.{View}
-use Rattle.model.specs.Sound.{lifetimeAllowed, sound}
-use Rattle.model.specs.Calls.{Call, stampOf}
+use Rattle.model.specs.State.{each, column, View, Call, stampOf, sound}
 use Rattle.model.specs.Effects.{stepped, keep}
-use Rattle.model.specs.Refusals.{ownChecks, checks}
+use Rattle.model.specs.Gate.{ownChecks, checks}
 use Rattle.queue.specs.declared.Queue.{Queue}
 use Rattle.queue.specs.Layout.{items, fullAt}
 use Rattle.decide.specs.declared.Offer.{Offer}

@@ -8,14 +8,11 @@ use Rattle.rules.proofs.Cases.{split, on-cond, both}
 use Rattle.model.specs.declared.Packet.{Packet}
 use Rattle.model.specs.declared.Answer.{Answer}
 use Rattle.model.specs.declared.Answer.the-variants.{Ready}
-use Rattle.model.specs.Answers.{isRefused}
-use Rattle.model.specs.Queues.{Four}
-use Rattle.model.specs.View as view
-use Rattle.model.specs.View.{View}
-use Rattle.model.specs.Sound.{room, allOf, sound}
-use Rattle.model.specs.Calls.{Call}
+use Rattle.model.specs.State.{isRefused, Four, View, Call, allOf, sound}
+use Rattle.model.specs.State as view
+use Rattle.rules.specs.Profiles.{room}
 use Rattle.model.specs.Gate.{make, call}
-use Rattle.model.specs.Journal.{Event, opened, journalOf}
+use Rattle.model.specs.Journal.{opened, journalOf}
 use Rattle.model.specs.Claims.{Claims, viewAfter, events}
 use Rattle.model.proofs.Sound.{SoundView, test-view}
 use Rattle.model.proofs.Refusals.{refusals-change-nothing}
@@ -72,8 +69,8 @@ run-reads s (c ∷ cs) e =
       is-sound = n .is-sound;
       view = n .view ∙ ap (λ (v : View). viewAfter v cs) (r .0);
       answers =
-          ap₂ (λ (a : Answer) (l : List Event). record { call = c; answer = a } ∷ l) (r .1) (n .answers)
-          ∙ ap (λ (v : View). record { call = c; answer = call (viewOf s) c .answer } ∷ events v cs) (r .0);
+          ap₂ (λ (a : Answer) (l : List (Call × Answer)). (c, a) ∷ l) (r .1) (n .answers)
+          ∙ ap (λ (v : View). (c, call (viewOf s) c .answer) ∷ events v cs) (r .0);
     }
 
 begins : (profile stamp : ℕ) → make profile stamp .answer ≡ Ready → sound (make profile stamp .view) ≡ true
@@ -89,7 +86,7 @@ make-runs profile stamp ready calls =
       answers = n .answers;
       claims =
           subst⁻¹ (λ (v : View). Claims profile v (journalOf (opened stamp) (eventsOn (stateOf first) calls))) (n .view ∙ ap (λ (v : View). viewAfter v calls) (view-state first))
-          (subst⁻¹ (λ (l : List Event). Claims profile (viewAfter first calls) (journalOf (opened stamp) l)) (n .answers ∙ ap (λ (v : View). events v calls) (view-state first))
+          (subst⁻¹ (λ (l : List (Call × Answer)). Claims profile (viewAfter first calls) (journalOf (opened stamp) l)) (n .answers ∙ ap (λ (v : View). events v calls) (view-state first))
           (demand3 profile stamp calls ready));
     }
   where

@@ -11,14 +11,13 @@ use lib.Seq.{drop-cons}
 use borrow.Author.Tests.{leb-true, leb-false, le-leb, lt-leb, ltb-true, ltb-false, ne-eqb}
 use Rattle.rules.specs.Clock.{endOfTime, passesEnd}
 use Rattle.rules.proofs.Cases.{split}
-use Rattle.model.specs.View.{yes}
-use Rattle.model.specs.Sound.{allOf, controlRules, lastRules, queueSound, sound}
+use Rattle.model.specs.State.{allOf, controlRules, lastRules, queueSound, sound}
 use Rattle.queue.specs.declared.Queue.{Queue}
 use Rattle.queue.specs.Layout.{items, Packed, tidy, soundQueue}
 use Rattle.gate.specs.declared.State.{State}
 use Rattle.gate.specs.Layout.{noQueue, queueAt, listsOf, queuesOf, LaidOut, allTidy, soundState}
 use Rattle.gate.specs.Requests.{soundQueues}
-use lib.Dec.{leb}
+use lib.Dec.{leb, eqb}
 
 four-long : (qs : List Queue) → length qs ≡ 4 → qs ≡ queueAt qs 0 ∷ queueAt qs 1 ∷ queueAt qs 2 ∷ queueAt qs 3 ∷ []
 four-long [] h = absurd (omega arith)
@@ -59,12 +58,12 @@ skipped : (t u v w x rest : Bool) → u ≡ true → v ≡ true → w ≡ true �
 skipped t u v w x rest a b c d = rw (a, b, c, d)
 
 -- where the numbers are sound, the state is exactly if its queues are
-pub sound-by-queues : (s : State) → length (s .queues) ≡ 4 → yes (s .live) ≡ true → allOf (controlRules (s .control)) ≡ true
+pub sound-by-queues : (s : State) → length (s .queues) ≡ 4 → eqb (s .live) 1 ≡ true → allOf (controlRules (s .control)) ≡ true
     → leb (s .clock .time) endOfTime ≡ true → allOf (lastRules (s .control .profile) (s .clock .time) (s .last)) ≡ true
     → soundState s ≡ soundQueues (s .control .profile) (s .clock .time) 0 (s .queues)
 unfolding soundState sound soundQueues soundQueue
 sound-by-queues s h a b c d =
-    skipped (allTidy qs) (yes (s .live)) (allOf (controlRules (s .control))) (leb now endOfTime) (allOf (lastRules profile now (s .last)))
+    skipped (allTidy qs) (eqb (s .live) 1) (allOf (controlRules (s .control))) (leb now endOfTime) (allOf (lastRules profile now (s .last)))
     (judge 0 && (judge 1 && (judge 2 && (judge 3 && true)))) a b c d
     ∙ regroup (tidy (queueAt qs 0)) (tidy (queueAt qs 1)) (tidy (queueAt qs 2)) (tidy (queueAt qs 3)) (judge 0) (judge 1) (judge 2) (judge 3)
     ∙ ap (soundQueues profile now 0) (sym (four-long qs h))
@@ -109,16 +108,16 @@ module _ (s : State) where
 
   pub unsound-control : allOf (controlRules (s .control)) ≡ false → soundState s ≡ false
   unfolding soundState sound
-  unsound-control h = fails-second (allTidy (s .queues)) (yes (s .live)) (allOf (controlRules (s .control))) _ h
+  unsound-control h = fails-second (allTidy (s .queues)) (eqb (s .live) 1) (allOf (controlRules (s .control))) _ h
 
   pub unsound-time : passesEnd (s .clock .time) ≡ true → soundState s ≡ false
   unfolding soundState sound passesEnd
-  unsound-time h = fails-third (allTidy (s .queues)) (yes (s .live)) (allOf (controlRules (s .control))) (leb (s .clock .time) endOfTime) _ (lt-leb (s .clock .time) endOfTime (ltb-true endOfTime (s .clock .time) h))
+  unsound-time h = fails-third (allTidy (s .queues)) (eqb (s .live) 1) (allOf (controlRules (s .control))) (leb (s .clock .time) endOfTime) _ (lt-leb (s .clock .time) endOfTime (ltb-true endOfTime (s .clock .time) h))
 
   pub unsound-last : allOf (lastRules (s .control .profile) (s .clock .time) (s .last)) ≡ false → soundState s ≡ false
   unfolding soundState sound
   unsound-last h =
-      fails-fourth (allTidy (s .queues)) (yes (s .live)) (allOf (controlRules (s .control))) (leb (s .clock .time) endOfTime)
+      fails-fourth (allTidy (s .queues)) (eqb (s .live) 1) (allOf (controlRules (s .control))) (leb (s .clock .time) endOfTime)
       (allOf (lastRules (s .control .profile) (s .clock .time) (s .last))) _ h
 
 pub in-time : (time : ℕ) → passesEnd time ≡ false → leb time endOfTime ≡ true

@@ -2,8 +2,7 @@
 use Prim.Native.Nat.{ℕ}
 use mathlib.Core.Path.{_≡_}
 use Rattle.model.specs.declared.Packet.{Packet}
-use Rattle.model.specs.Queues.{Four, four}
-use Rattle.model.specs.View.{View}
+use Rattle.model.specs.State.{Four, four, View}
 use Rattle.queue.proofs.Packing.{items-packed}
 use Rattle.gate.specs.Layout.{listsOf, queuesOf, viewOf, stateOf}
 

@@ -7,12 +7,8 @@ use lib.ListN.{getD}
 use Rattle.model.specs.declared.Packet.{Packet}
 use Rattle.model.specs.declared.Answer.{Answer}
 use Rattle.model.specs.declared.Answer.the-variants.{Refused}
-use Rattle.model.specs.Queues.{Four, four}
-use Rattle.model.specs.Answers.{isRefused}
-use Rattle.model.specs.View as view
-use Rattle.model.specs.View.{View}
-use Rattle.model.specs.Sound.{allOf, sound}
-use Rattle.model.specs.Calls.{Call}
+use Rattle.model.specs.State.{Four, four, isRefused, View, Call, allOf, sound}
+use Rattle.model.specs.State as view
 use Rattle.model.specs.Gate.{make, call}
 use Rattle.queue.specs.declared.Queue.{Queue}
 use Rattle.queue.specs.Layout.{items, packed, tidy}

@@ -10,8 +10,7 @@ use Rattle.model.specs.declared.Clock.{Clock}
 use Rattle.model.specs.declared.Control.{Control}
 use Rattle.model.specs.declared.Last.{Last}
 use Rattle.model.specs.declared.Answer.the-variants.{Taken, Refused}
-use Rattle.model.specs.Sound.{allOf, controlRules, lastRules}
-use Rattle.model.specs.Calls.{Call, words, count, offer, poll}
+use Rattle.model.specs.State.{allOf, controlRules, lastRules, Call, words, count, offer, poll}
 use Rattle.model.specs.Effects.{stepped, sampled}
 use Rattle.queue.specs.declared.Queue.{Queue}
 use Rattle.queue.specs.Layout.{cleared}

@@ -8,11 +8,8 @@ use Rattle.rules.specs.Refusals.{firstOf}
 use Rattle.rules.specs.Samples.{badCount}
 use Rattle.model.specs.declared.Packet.{Packet}
 use Rattle.model.specs.declared.Clock.{Clock}
-use Rattle.model.specs.declared.Control.{Control}
-use Rattle.model.specs.Queues.{noneOf}
-use Rattle.model.specs.View.{View}
-use Rattle.model.specs.Calls.{Call, count, offer, poll}
-use Rattle.model.specs.Refusals.{checks}
+use Rattle.model.specs.State.{Call, count, offer, poll}
+use Rattle.model.specs.Gate.{checks}
 use Rattle.model.specs.Effects.{stepped, keep}
 use Rattle.queue.specs.declared.Queue.{Queue}
 use Rattle.queue.specs.Layout.{items, soundQueue, fullAt}
@@ -74,8 +71,3 @@ unfoldable pub searchesOn : ℕ → Request → Bool
 searchesOn number (Count busy) = false
 searchesOn number (Offered o) = false
 searchesOn number Poll = eqb number 0
-
--- a view with nothing waiting and nothing admitted
-abbrev pub blankView : ℕ → Clock → Control → View
-blankView live clock control =
-    record { live = live; clock = clock; control = control; last = record { at = 0; ontime = 0; any = 0 }; queues = noneOf }

@@ -1,11 +1,11 @@
 // The gate: make, sample, offer and poll on a state by value (document 01).
 ghost use mathlib.Core.Path.{_≡_};
 ghost use mathlib.Core.Bool.{true};
-ghost use Rattle.model.specs.Calls.{words, count, offer, poll};
+ghost use Rattle.model.specs.State.{blankView, words, count, offer, poll};
 ghost use Prim.Native.Nat.{_≤_};
 ghost use Rattle.queue.specs.Layout.{Packed};
 ghost use Rattle.gate.specs.Layout.{viewOf, stateOf, LaidOut, soundState, callOn, makeState};
-ghost use Rattle.gate.specs.Requests.{callOf, queueOf, refusalWith, searchesOn, chosenFrom, blankView};
+ghost use Rattle.gate.specs.Requests.{callOf, queueOf, refusalWith, searchesOn, chosenFrom};
 ghost use Rattle.gate.specs.Plans.{Plannable, planWith, changesIn};
 ghost use Rattle.gate.specs.Runs.{Runs};
 use decide::Choice;

@@ -14,12 +14,10 @@ use Rattle.rules.specs.Levels.{wantedBy, towards, waitBy}
 use Rattle.rules.specs.Wait.{waitOf}
 use Rattle.model.specs.declared.Answer.{Answer}
 use Rattle.model.specs.declared.Answer.the-variants.{Sent, Idle, Closed}
-use Rattle.model.specs.Sound.{inOrder, queueSound, sound}
-use Rattle.model.specs.Calls.{Call, count, offer, poll}
+use Rattle.model.specs.State.{inOrder, queueSound, sound, Call, count, offer, poll}
 use Rattle.model.specs.Effects.{sampled, keep, choice, closed, effect}
-use Rattle.model.specs.Refusals.{checks}
-use Rattle.model.specs.Gate.{make, call}
-use Rattle.model.specs.Journal.{Line, Event, opened, lowest, picked, journalOf}
+use Rattle.model.specs.Gate.{checks, make, call}
+use Rattle.model.specs.Journal.{Line, opened, lowest, picked, journalOf}
 use Rattle.model.specs.Claims.{viewAfter, events}
 use Rattle.model.specs.Delivery.{offeredLine, longestWait, PolledEvery, Delivered}
 use Rattle.model.proofs.Delivery.{delivery}
@@ -41,11 +39,11 @@ polls = poll (every - 1) ∷ poll (every + every - 1) ∷ poll (every + every + 
 line : ℕ → Line
 line lifetime = offeredLine (journalOf (opened 0) (events (make 1 0 .view) before)) 0 8 1000 lifetime
 
-eventsOf : ℕ → List Event
+eventsOf : ℕ → List (Call × Answer)
 eventsOf lifetime = events (viewAfter (make 1 0 .view) (offered lifetime)) polls
 
 answers : ℕ → List Answer
-answers lifetime = map (λ (e : Event). e .answer) (eventsOf lifetime)
+answers lifetime = map (λ (e : Call × Answer). e .1) (eventsOf lifetime)
 
 -- quiet is every + every
 longest : ℕ
@@ -74,5 +72,5 @@ delivered :
     Delivered longest (line (longest + 1)) (journalOf (opened 0) (events (make 1 0 .view) (before ++ offer 0 8 0 1000 (longest + 1) ∷ polls)))
 unfolding line before polls every longest quiet journalOf picked lowest viewAfter events make call effect checks firstOf sound inOrder queueSound within ontimeAllowed mostOntime stepOf goesBack passesEnd badCount loadOf sampled towards wantedBy reactiveOf keep choice closed waitOf waitBy
 delivered =
-    delivery 1 0 every 0 8 1000 (longest + 1) before polls refl refl .1 (omega arith)
+    delivery 1 0 every 0 8 1000 (longest + 1) before polls refl refl (omega arith)
     (λ w. omega arith, (λ w. omega arith, (λ w. omega arith, tt)))

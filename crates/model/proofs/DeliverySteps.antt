@@ -11,21 +11,22 @@ use native.Mathlib.Omega.{arith}
 use lib.Dec.{leb}
 use lib.ListN.{length}
 use Rattle.rules.specs.Limits.{quiet}
-use Rattle.rules.proofs.Cases.{split}
+use Rattle.rules.proofs.Cases.{split, on-cond}
 use Rattle.model.specs.declared.Packet.{Packet}
 use Rattle.model.specs.declared.Answer.{Answer}
 use Rattle.model.specs.declared.Answer.the-variants.{Ready, Taken, Sent, Idle, Closed, Refused}
-use Rattle.model.specs.Queues.{each, column}
-use Rattle.model.specs.Answers.{isRefused}
-use Rattle.model.specs.View.{View}
-use Rattle.model.specs.Calls.{Call, words, count, offer, poll}
+use Rattle.model.specs.State.{each, column, View, Call, words, count, offer, poll, Outcome, packetFrom, isSent, isRefused}
+use Rattle.model.specs.Effects.{effect}
 use Rattle.model.specs.Gate.{call}
-use Rattle.model.specs.Journal.{Line, Admission, expiry, admission, Journal, Event, turned, outlived, byExpiry, allStruck, struck, written, top, sentOf, answered, accepted, fed}
-use Rattle.model.specs.Claims.{All, packetOf, atPoll, SeenAtMost, Claims}
-use Rattle.model.specs.Delivery.{Among, Waits, Left, SentBy, longestWait, pollOf, lastPoll}
-use Rattle.model.proofs.Cases.{on-test, clash}
+use Rattle.model.specs.Journal.{Line, Admission, expiry, admission, Journal, turned, outlived, allStruck, struck, written, top, sentOf, accepted, fed, atPoll}
+use Rattle.model.specs.Claims.{All, Claims}
+use Rattle.model.specs.Delivery.{Among, Waits, Left, SentBy, longestWait, lastPoll}
+use Rattle.model.proofs.Cases.{clash}
 use Rattle.model.proofs.Tests.{tested}
+use Rattle.model.proofs.Refusals.{on-call}
 use Rattle.model.proofs.Fours.{Fours}
+use Rattle.model.proofs.Columns.{packetOf}
+use Rattle.model.proofs.Turns.{SeenAtMost, byExpiry}
 use Rattle.model.proofs.SoundQueues.{InOrder, Queued}
 use Rattle.model.proofs.Sound.{test-view}
 use Rattle.model.proofs.DeliveryLines.{all-of, all-more, one-behind, was-there, still-there, written-still, written-was, untopped-was, on-top, not-both}
@@ -45,17 +46,27 @@ nowhere-else profile v j l c z =
     (⊎-elim (λ m. omega (arith, own-priority _ _ 2 0 l (j .columns .c2) (q .2 .order) m))
     (λ m. omega (arith, own-priority _ _ 3 0 l (j .columns .c3) (q .3 .order) m)))
 
-answered-time : (j : Journal) (a : Answer) → answered j a .time ≡ j .time
-answered-time j Ready = refl
-answered-time j Taken = refl
-answered-time j (Sent q) = by (top (j .columns))
-  where
-    by : (ls : List Line) → sentOf j ls .time ≡ j .time
-    by [] = refl
-    by (x ∷ ls) = refl
-answered-time j Idle = refl
-answered-time j (Closed left) = refl
-answered-time j (Refused number) = refl
+sent-time : (j : Journal) (ls : List Line) → sentOf j ls .time ≡ j .time
+sent-time j [] = refl
+sent-time j (x ∷ ls) = refl
+
+-- a sample or an offer that is accepted answers TAKEN
+abbrev Polls : Call → Type 0
+Polls (words stamp ws) = ⊥
+Polls (count stamp busy) = ⊥
+Polls (offer stamp id priority ontime lifetime) = ⊥
+Polls (poll stamp) = Unit {0}
+
+effect-taken : (v : View) (d : Call) → (Polls d → ⊥) → effect v d .answer ≡ Taken
+unfolding effect
+effect-taken v (words stamp ws) n = refl
+effect-taken v (count stamp busy) n = refl
+effect-taken v (offer stamp id priority ontime lifetime) n = refl
+effect-taken v (poll stamp) n = absurd (n tt)
+
+call-taken : (v : View) (d : Call) → (Polls d → ⊥) → isRefused (call v d .answer) ≡ false → call v d .answer ≡ Taken
+call-taken v d n =
+    on-call (λ (o : Outcome). isRefused (o .answer) ≡ false → o .answer ≡ Taken) v d (λ k r. effect-taken v d n) (λ k r. clash (cc))
 
 -- the line
 module _ (profile p : ℕ) (l : Line) where
@@ -78,7 +89,7 @@ module _ (profile p : ℕ) (l : Line) where
     pub pace : Waits l j → Paced last (j .admissions)
     pub timely : Waits l j → j .time ≤ deadline
     pub there : Waits l j ⊎ SentBy deadline l j
-    pub unexpired : Left l expiry j → ⊥
+    pub unexpired : (at : ℕ) → Left l expiry at j → ⊥
     pub reached : last ≤ j .time
     pub past : Past j
 
@@ -125,8 +136,8 @@ module _ (profile p : ℕ) (l : Line) where
           timely = λ w. g .timely (left-was w);
           there =
               ⊎-elim (λ w. inl (still-there (λ (x : Line). not (outlived (j .time) x)) l (j .columns .c0) (ap not (lives w)) w))
-              (λ s. inr (s .0, one-behind _ (map byExpiry (allStruck j)) (j .departures) (s .1), s .2)) (g .there);
-          unexpired = left-struck j l unstruck (g .unexpired);
+              (λ s. inr (s .0, s .1, one-behind _ (map (byExpiry (j .time)) (allStruck j)) (j .departures) (s .2), s .3)) (g .there);
+          unexpired = λ at. left-struck j l at unstruck (g .unexpired at);
           reached = g .reached;
           past = past-struck j (g .past);
         }
@@ -175,8 +186,8 @@ module _ (profile p : ℕ) (l : Line) where
       record {
         pace = λ w. seen-one (untopped-was l (j .columns) w);
         timely = λ w. g .timely (untopped-was l (j .columns) w);
-        there = ⊎-elim goes (λ s. inr (s .0, inr (s .1), inr (s .2))) (g .there);
-        unexpired = ⊎-elim (not-both _ x l) (g .unexpired);
+        there = ⊎-elim goes (λ s. inr (s .0, s .1, inr (s .2), s .3)) (g .there);
+        unexpired = λ at. ⊎-elim (not-both _ _ at x l) (g .unexpired at);
         reached = omega arith;
         past = past-sent j (x ∷ xs) (g .past);
       }
@@ -199,8 +210,9 @@ module _ (profile p : ℕ) (l : Line) where
           (λ f. let same : x ≡ l = cc (t .1) in
           inr (
             suc (length (j .admissions)),
-            inl (ap (λ (y : Line). record { line = y; way = admission (suc (length (j .admissions))) }) same),
-            inl (refl, g .timely w),
+            j .time,
+            inl (ap (λ (y : Line). record { line = y; way = admission (suc (length (j .admissions))); at = j .time }) same),
+            g .timely w,
           ))
           inl (t .2)
 
@@ -234,47 +246,55 @@ module _ (profile p : ℕ) (l : Line) where
     cleared-going stamp h =
         struck-going (turned j stamp) last (nowhere-else profile v j l c zero) long (turned-going v j last stamp c g h)
 
-    answered-going : (stamp : ℕ) (a : Answer) → (Waits l j → turned j stamp .time ≤ last + p) → call v (poll stamp) .answer ≡ a
-        → isRefused a ≡ false → Going (turned j stamp .time) (answered (atPoll j stamp) a)
-    answered-going stamp a h e u = by a e u
-      where
-        unsent : (b : Answer) → call v (poll stamp) .answer ≡ b → isRefused b ≡ false → ((q : Packet) → b ≡ Sent q → ⊥)
-            → Going (turned j stamp .time) (atPoll j stamp)
-        unsent b f r n =
-            unsent-going (atPoll j stamp) last (cleared-going stamp h)
-            (early v j last stamp c (ap isRefused f ∙ r) (λ q k. n q (sym f ∙ k)))
+    unsent-poll : (stamp : ℕ) (a : Answer) → (Waits l j → turned j stamp .time ≤ last + p) → call v (poll stamp) .answer ≡ a
+        → isRefused a ≡ false → ((q : Packet) → a ≡ Sent q → ⊥) → Going (turned j stamp .time) (atPoll j stamp)
+    unsent-poll stamp a h e u n =
+        unsent-going (atPoll j stamp) last (cleared-going stamp h)
+        (early v j last stamp c (ap isRefused e ∙ u) (λ q k. n q (sym e ∙ k)))
 
-        by : (b : Answer) → call v (poll stamp) .answer ≡ b → isRefused b ≡ false
-            → Going (turned j stamp .time) (answered (atPoll j stamp) b)
-        by Ready f r = unsent Ready f r (λ q k. clash (cc))
-        by Taken f r = unsent Taken f r (λ q k. clash (cc))
-        by (Sent q) f r =
-            sent-going (atPoll j stamp) last (top (atPoll j stamp .columns)) refl (cleared-going stamp h)
-            (λ w. h (was-there _ l (j .columns .c0) w .0))
-        by Idle f r = unsent Idle f r (λ q k. clash (cc))
-        by (Closed left) f r = unsent (Closed left) f r (λ q k. clash (cc))
-        by (Refused number) f r = clash (cc)
+    polled-time : (stamp : ℕ) (a : Answer) → accepted j (poll stamp) a .time ≡ turned j stamp .time
+    polled-time stamp a =
+        on-cond (λ (k : Journal). k .time ≡ turned j stamp .time) (isSent a) (λ u. sent-time (atPoll j stamp) (top (atPoll j stamp .columns)))
+        (λ u. refl)
+
+    abbrev polledAs : ℕ → Answer → Journal
+    polledAs stamp a = accepted j (poll stamp) a
+
+    poll-going : (stamp : ℕ) (a : Answer) → (Waits l j → turned j stamp .time ≤ last + p) → call v (poll stamp) .answer ≡ a
+        → isRefused a ≡ false → Going (lastPoll last a (polledAs stamp a)) (polledAs stamp a)
+    poll-going stamp Ready h e u = cleared-going stamp h
+    poll-going stamp Taken h e u = cleared-going stamp h
+    poll-going stamp (Sent q) h e u =
+        let tops = top (atPoll j stamp .columns) in
+        subst (λ (t : ℕ). Going t (sentOf (atPoll j stamp) tops)) (sym (sent-time (atPoll j stamp) tops))
+        (sent-going (atPoll j stamp) last tops refl (cleared-going stamp h) (λ w. h (was-there _ l (j .columns .c0) w .0)))
+    poll-going stamp Idle h e u = unsent-poll stamp Idle h e u (λ q k. clash (cc))
+    poll-going stamp (Closed left) h e u = unsent-poll stamp (Closed left) h e u (λ q k. clash (cc))
+    poll-going stamp (Refused number) h e u = clash (cc)
+
+    taken-going : (d : Call) (a : Answer) → (Polls d → ⊥) → call v d .answer ≡ a → isRefused a ≡ false
+        → Going last (accepted j d a) → Going (lastPoll last a (accepted j d a)) (accepted j d a)
+    taken-going d a n e u =
+        let t : a ≡ Taken = sym e ∙ call-taken v d n (ap isRefused e ∙ u) in
+        subst (λ (b : Answer). Going last (accepted j d b) → Going (lastPoll last b (accepted j d b)) (accepted j d b)) (sym t) (λ h. h)
 
     accepted-going : (d : Call) (a : Answer) → call v d .answer ≡ a → isRefused a ≡ false
-        → (Waits l j → accepted j d a .time ≤ last + p) → Going (pollOf d last (accepted j d a .time)) (accepted j d a)
-    accepted-going (words stamp ws) a e u h = turned-going v j last stamp c g h
-    accepted-going (count stamp busy) a e u h = turned-going v j last stamp c g h
+        → (Waits l j → accepted j d a .time ≤ last + p) → Going (lastPoll last a (accepted j d a)) (accepted j d a)
+    accepted-going (words stamp ws) a e u h = taken-going (words stamp ws) a (λ n. n) e u (turned-going v j last stamp c g h)
+    accepted-going (count stamp busy) a e u h = taken-going (count stamp busy) a (λ n. n) e u (turned-going v j last stamp c g h)
     accepted-going (offer stamp id priority ontime lifetime) a e u h =
-        written-going (atPoll j stamp) last
-        (record { id = id; priority = priority; ontime = ontime; lifetime = lifetime; arrival = turned j stamp .time }) refl
-        (cleared-going stamp h)
-    accepted-going (poll stamp) a e u h =
-        let now = answered-time (atPoll j stamp) a in
-        subst (λ (t : ℕ). Going t (answered (atPoll j stamp) a)) (sym now)
-        (answered-going stamp a (λ w. omega (arith, h w)) e u)
+        taken-going (offer stamp id priority ontime lifetime) a (λ n. n) e u
+        (written-going (atPoll j stamp) last (packetFrom id priority ontime lifetime (turned j stamp .time)) refl (cleared-going stamp h))
+    accepted-going (poll stamp) a e u h = poll-going stamp a (λ w. omega (arith, polled-time stamp a, h w)) e u
 
-    abbrev event : Call → Event
-    event d = record { call = d; answer = call v d .answer }
-
-    pub call-going : (d : Call) → (Waits l j → fed j (event d) .time ≤ last + p)
-        → Going (lastPoll last (event d) (fed j (event d))) (fed j (event d))
-    call-going d =
-        on-test
-        (λ u. (Waits l j → cond u j (accepted j d (call v d .answer)) .time ≤ last + p)
-        → Going (cond u last (pollOf d last (cond u j (accepted j d (call v d .answer)) .time))) (cond u j (accepted j d (call v d .answer))))
-        (isRefused (call v d .answer)) (λ u h. g) (λ u. accepted-going d (call v d .answer) refl u)
+    pub call-going : (d : Call) → (Waits l j → fed j d (call v d .answer) .time ≤ last + p)
+        → Going (lastPoll last (call v d .answer) (fed j d (call v d .answer))) (fed j d (call v d .answer))
+    call-going d = by (call v d .answer) refl
+      where
+        by : (a : Answer) → call v d .answer ≡ a → (Waits l j → fed j d a .time ≤ last + p) → Going (lastPoll last a (fed j d a)) (fed j d a)
+        by Ready e h = accepted-going d Ready e refl h
+        by Taken e h = accepted-going d Taken e refl h
+        by (Sent q) e h = accepted-going d (Sent q) e refl h
+        by Idle e h = accepted-going d Idle e refl h
+        by (Closed left) e h = accepted-going d (Closed left) e refl h
+        by (Refused number) e h = g

@@ -5,19 +5,16 @@ use mathlib.Core.Path.{_≡_, refl, ap}
 use mathlib.Core.Bool.{false}
 use mathlib.Core.List.{List, [], _∷_}
 use native.Mathlib.Omega.{arith}
-use lib.ListN.{length}
+use lib.ListN.{length, take}
 use Rattle.rules.specs.Limits.{quiet, Keeps}
 use Rattle.rules.proofs.Cases.{on-cond}
 use Rattle.model.specs.declared.Packet.{Packet}
 use Rattle.model.specs.declared.Answer.the-variants.{Sent, Refused}
-use Rattle.model.specs.Queues.{column}
-use Rattle.model.specs.Answers.{isRefused}
-use Rattle.model.specs.View.{View, Outcome}
-use Rattle.model.specs.Calls.{poll}
+use Rattle.model.specs.State.{column, isRefused, View, Outcome, poll}
 use Rattle.model.specs.Effects.{cleared, closed, polled, effect}
 use Rattle.model.specs.Gate.{make, call}
-use Rattle.model.specs.Journal.{Line, Admission, Journal, opened, turned, lowest, topOf, top, journalOf}
-use Rattle.model.specs.Claims.{viewAfter, events, All, atPoll, Claims, Demand3}
+use Rattle.model.specs.Journal.{Line, Admission, Journal, opened, turned, lowest, top, journalOf, atPoll}
+use Rattle.model.specs.Claims.{viewAfter, events, All, Claims, Demand3}
 use Rattle.model.proofs.Cases.{clash}
 use Rattle.model.proofs.Window.{window}
 use Rattle.model.proofs.Columns.{choiceBy}
@@ -25,6 +22,7 @@ use Rattle.model.proofs.Turns.{turn-waiting}
 use Rattle.model.proofs.Refusals.{on-call}
 use Rattle.model.proofs.Gaps.{quiet-opens}
 use Rattle.model.proofs.Invariant.{Tied, cleared-tied, chosen-lowest}
+use Rattle.model.proofs.DeliveryLines.{all-more}
 use Rattle.model.proofs.Runs.{InRun, kept, run-on, run-begins}
 
 -- one more poll
@@ -53,7 +51,7 @@ module _ (v : View) (j : Journal) (i : Tied v j) (stamp : ℕ) where
       late = rw (cleared-tied v j stamp i .time) q
 
       by : (ls : List Line) → found ≡ ls → Sends (polled (cleared v stamp) (choiceBy (atPoll j stamp .columns) ls))
-      by [] e = absurd (some (ap topOf e))
+      by [] e = absurd (some (ap (take 1) e))
       by (l ∷ ls) e =
           on-cond Sends (closed (cleared v stamp))
           (λ u. absurd (quiet-opens (cleared v stamp) k (j .admissions) (i .newest) late u))
@@ -68,7 +66,7 @@ module _ (v : View) (j : Journal) (i : Tied v j) (stamp : ℕ) where
       by : (ls : List Line) → found ≡ ls → Carries p (polled (cleared v stamp) (choiceBy (atPoll j stamp .columns) ls))
       by [] e = λ r. clash (cc)
       by (l ∷ ls) e =
-          on-cond (Carries p) (closed (cleared v stamp)) (λ u r. clash (cc)) (λ u r. (l, ap topOf e, cc))
+          on-cond (Carries p) (closed (cleared v stamp)) (λ u r. clash (cc)) (λ u r. (l, ap (take 1) e, cc))
 
 claims : (profile : ℕ) (v : View) (j : Journal) → InRun profile v j → Claims profile v j
 claims profile v j r =
@@ -80,7 +78,9 @@ claims profile v j r =
       ceiling = λ from w. window from w (j .admissions) (r .tied .spaced);
       floor = λ stamp accepted some q. sends v j (r .tied) stamp (kept v (r .sounds)) some (rw (r .same) q) accepted;
       sent = λ stamp. carries v j (r .tied) stamp;
-      waiting = turn-waiting (length (j .admissions)) (length (j .admissions)) (j .columns .c0) (omega arith) (r .tied .turn);
+      waiting =
+          all-more _ _ (j .columns .c0) (λ l h. omega (arith, h))
+          (turn-waiting (length (j .admissions)) (length (j .admissions)) (j .columns .c0) (omega arith) (r .tied .turn));
       leaving = r .tied .departed;
     }
 

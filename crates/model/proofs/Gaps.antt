@@ -6,7 +6,7 @@ use mathlib.Core.Bool.{true, false}
 use mathlib.Core.List.{List, [], _∷_}
 use Rattle.rules.specs.Limits.{quiet, Keeps}
 use Rattle.model.specs.declared.Last.{Last}
-use Rattle.model.specs.View.{View, yes}
+use Rattle.model.specs.State.{View}
 use Rattle.model.specs.Effects.{closed}
 use Rattle.model.specs.Journal.{Admission}
 use Rattle.model.specs.Claims.{All, Newest}

@@ -4,25 +4,21 @@ use mathlib.Core.Path.{_≡_, refl, ap, ap₂, sym, _∙_, subst}
 use mathlib.Core.Bool.{false}
 use mathlib.Core.List.{List, [], _∷_, map}
 use native.Mathlib.Omega.{arith}
-use lib.ListN.{length, drop}
+use lib.ListN.{length, take, drop}
 use Rattle.rules.specs.Limits.{Keeps}
 use Rattle.rules.specs.Clock.{stepOf}
 use Rattle.rules.specs.Refusals.{NoneHolds}
 use Rattle.rules.proofs.Cases.{on-cond}
 use Rattle.model.specs.declared.Packet.{Packet}
-use Rattle.model.specs.declared.Control.{Control}
-use Rattle.model.specs.Queues.{each, column, change}
-use Rattle.model.specs.View.{View, fresh, withControl, Outcome}
-use Rattle.model.specs.Calls.{Call, words, count, offer, poll}
-use Rattle.model.specs.Effects.{moved, keep, cleared, atBack, joined, choice, closed, admitted, polled, effect}
-use Rattle.model.specs.Refusals.{checks}
-use Rattle.model.specs.Gate.{call}
-use Rattle.model.specs.Journal.{Line, Journal, opened, turned, allStruck, written, lowest, topOf, top, sentOf, fed}
-use Rattle.model.specs.Claims.{All, packetOf, atPoll, DepartsInTurn, Newest}
+use Rattle.model.specs.State.{each, column, change, View, fresh, Outcome, Call, words, count, offer, poll}
+use Rattle.model.specs.Effects.{stepped, sampledBy, keep, cleared, atBack, joined, choice, closed, admitted, polled, effect}
+use Rattle.model.specs.Gate.{checks, call}
+use Rattle.model.specs.Journal.{Line, Journal, opened, turned, allStruck, written, lowest, top, sentOf, fed, atPoll}
+use Rattle.model.specs.Claims.{All, Newest}
 use Rattle.model.proofs.Fours.{Fours}
 use Rattle.model.proofs.Window.{SpacedSoFar}
-use Rattle.model.proofs.Columns.{same-left, same-offer, choiceBy, same-choice}
-use Rattle.model.proofs.Turns.{Turn, turn-picked, turn-written, Own, LeavesInTurn, leaves-in-turn, expired-in-turn}
+use Rattle.model.proofs.Columns.{packetOf, same-left, same-offer, choiceBy, same-choice}
+use Rattle.model.proofs.Turns.{DepartsInTurn, Turn, turn-picked, turn-written, Own, LeavesInTurn, leaves-in-turn, expired-in-turn}
 use Rattle.model.proofs.Refusals.{on-call}
 use Rattle.model.proofs.SoundQueues.{Queued}
 use Rattle.model.proofs.Sound.{SoundView, cleared-sound, chosen-queued, passed-time}
@@ -42,12 +38,12 @@ fresh-tied profile stamp =
     record { time = refl; stamp = refl; queues = refl; newest = refl; spaced = tt; turn = tt; departed = tt }
 
 -- the clock: the gate's step is the journal's
-step-turned : (v : View) (j : Journal) (stamp : ℕ) → Tied v j → moved v stamp .clock .time ≡ turned j stamp .time
+step-turned : (v : View) (j : Journal) (stamp : ℕ) → Tied v j → stepped (v .clock) stamp .time ≡ turned j stamp .time
 unfolding stepOf
 step-turned v j stamp i = rw (i .time, i .stamp) (omega arith)
 
-sampled-tied : (v : View) (j : Journal) (stamp : ℕ) (k : Control) → Tied v j → Tied (withControl (moved v stamp) k) (turned j stamp)
-sampled-tied v j stamp k i =
+sampled-tied : (v : View) (j : Journal) (stamp busy : ℕ) → Tied v j → Tied (sampledBy v stamp busy) (turned j stamp)
+sampled-tied v j stamp busy i =
     record {
       time = step-turned v j stamp i;
       stamp = refl;
@@ -69,11 +65,11 @@ cleared-tied v j stamp i =
       newest = i .newest;
       spaced = i .spaced;
       turn = turn-picked _ (length (j .admissions)) (j .columns .c0) (i .turn);
-      departed = expired-in-turn (allStruck (turned j stamp)) (j .departures) (i .departed);
+      departed = expired-in-turn (turned j stamp .time) (allStruck (turned j stamp)) (j .departures) (i .departed);
     }
 
 -- an offer
-joined-tied : (v : View) (j : Journal) (p : Packet) → Tied v j → Tied (joined v p .view) (written j p)
+joined-tied : (v : View) (j : Journal) (p : Packet) → Tied v j → Tied (joined v p) (written j p)
 joined-tied v j p i =
     record {
       time = i .time;
@@ -109,7 +105,7 @@ module _ (v : View) (j : Journal) (i : Tied v j) (h : SoundView v) (k : Keeps (v
   sent-tied l ls e ready =
       let chosen = rw (chosen-lowest v j i, e) at (chosen-queued v h) in
       let turn = rw e at leaves in
-      subst (λ (c : List Line). Tied (afterSent l) (sentOf j (topOf c))) (sym e)
+      subst (λ (c : List Line). Tied (afterSent l) (sentOf j (take 1 c))) (sym e)
       (record {
         time = i .time;
         stamp = i .stamp;
@@ -125,7 +121,7 @@ module _ (v : View) (j : Journal) (i : Tied v j) (h : SoundView v) (k : Keeps (v
 
 -- every call
 abbrev Kept : Journal → Call → Outcome → Type 0
-Kept j c o = Tied (o .view) (fed j (record { call = c; answer = o .answer }))
+Kept j c o = Tied (o .view) (fed j c (o .answer))
 
 polled-kept : (v : View) (j : Journal) (stamp : ℕ) (ls : List Line) → Tied (cleared v stamp) (atPoll j stamp) → SoundView (cleared v stamp)
     → Keeps (v .control .profile) → column (lowest (atPoll j stamp .columns)) (atPoll j stamp .columns) ≡ ls
@@ -142,14 +138,14 @@ effect-kept v j (words stamp ws) h k i n = sampled-tied v j stamp _ i
 effect-kept v j (count stamp busy) h k i n = sampled-tied v j stamp _ i
 effect-kept v j (offer stamp id priority ontime lifetime) h k i n =
     let new : ℕ → Packet = λ at. record { id = id; priority = priority; ontime = ontime; lifetime = lifetime; arrival = at } in
-    subst (λ (at : ℕ). Tied (joined (cleared v stamp) (new (moved v stamp .clock .time)) .view) (written (atPoll j stamp) (new at)))
+    subst (λ (at : ℕ). Tied (joined (cleared v stamp) (new (stepped (v .clock) stamp .time))) (written (atPoll j stamp) (new at)))
     (step-turned v j stamp i)
-    (joined-tied (cleared v stamp) (atPoll j stamp) (new (moved v stamp .clock .time)) (cleared-tied v j stamp i))
+    (joined-tied (cleared v stamp) (atPoll j stamp) (new (stepped (v .clock) stamp .time)) (cleared-tied v j stamp i))
 effect-kept v j (poll stamp) h k i n =
     let w = cleared-tied v j stamp i in
     rw (chosen-lowest (cleared v stamp) (atPoll j stamp) w)
     (polled-kept v j stamp _ w (cleared-sound v stamp (passed-time v (poll stamp) n) h) k refl)
 
 pub call-tied : (v : View) (j : Journal) (c : Call) → SoundView v → Keeps (v .control .profile) → Tied v j
-    → Tied (call v c .view) (fed j (record { call = c; answer = call v c .answer }))
+    → Tied (call v c .view) (fed j c (call v c .answer))
 call-tied v j c h k i = on-call (Kept j c) v c (effect-kept v j c h k i) (λ n. i)

@@ -5,10 +5,10 @@ use mathlib.Core.Path.{_≡_, refl}
 use mathlib.Core.Bool.{true, false}
 use mathlib.Core.List.{[]}
 use native.Mathlib.Omega.{arith}
-use lib.Dec.{leb}
+use lib.Dec.{leb, eqb}
 use lib.ListN.{length}
 use borrow.Author.Tests.{not-false}
-use Rattle.rules.specs.Profiles.{fullLoad, isProfile, isReactive, reactiveOf}
+use Rattle.rules.specs.Profiles.{fullLoad, isProfile, isReactive, reactiveOf, room}
 use Rattle.rules.specs.Clock.{endOfTime}
 use Rattle.rules.specs.Samples.{probes, busyOf, badCount, loadOf}
 use Rattle.rules.specs.Levels.{wantedBy}
@@ -20,13 +20,9 @@ use Rattle.rules.proofs.Levels.{wanted-le, towards-le}
 use Rattle.rules.proofs.Duty.{smoothed-le, duty-held}
 use Rattle.model.specs.declared.Packet.{Packet}
 use Rattle.model.specs.declared.Control.{Control}
-use Rattle.model.specs.Queues.{column}
-use Rattle.model.specs.View.{View, yes, fresh, Outcome}
-use Rattle.model.specs.Sound.{room, sound}
-use Rattle.model.specs.Calls.{Call, words, count, offer, poll}
-use Rattle.model.specs.Effects.{moved, sampled, sampledBy, cleared, atBack, joined, Choice, nothing, chosen, choice, closed, polled, effect}
-use Rattle.model.specs.Refusals.{checks}
-use Rattle.model.specs.Gate.{CallsKeepSound}
+use Rattle.model.specs.State.{column, View, fresh, Outcome, Call, words, count, offer, poll, sound}
+use Rattle.model.specs.Effects.{stepped, sampled, sampledBy, cleared, atBack, joined, Choice, nothing, chosen, choice, closed, polled, effect}
+use Rattle.model.specs.Gate.{checks, CallsKeepSound}
 use Rattle.model.proofs.Cases.{clash}
 use Rattle.model.proofs.Tests.{tested}
 use Rattle.model.proofs.Fours.{fours-change}
@@ -80,7 +76,7 @@ sampled-sound k load a h =
       flag = h .flag;
       pairing = h .pairing;
     })
-    (λ e. on-cond SoundControl (yes (k .pairing))
+    (λ e. on-cond SoundControl (eqb (k .pairing) 1)
     (λ f. record {
       profile = h .profile;
       level = h .level;
@@ -108,8 +104,8 @@ good-count : (busy : ℕ) → badCount busy ≡ false → busy ≤ probes
 unfolding badCount
 good-count busy e = omega tested
 
-sample-sound : (v : View) (stamp busy : ℕ) → moved v stamp .clock .time ≤ endOfTime → busy ≤ probes → SoundView v
-    → Stays (sampledBy v stamp busy)
+sample-sound : (v : View) (stamp busy : ℕ) → stepped (v .clock) stamp .time ≤ endOfTime → busy ≤ probes → SoundView v
+    → SoundView (sampledBy v stamp busy)
 sample-sound v stamp busy k a h =
     let m = moved-sound v stamp k h in
     let e = sampled-profile (v .control) (loadOf busy) in
@@ -123,7 +119,7 @@ sample-sound v stamp busy k a h =
 
 -- an offer
 joined-sound : (v : View) (p : Packet) → p .priority ≤ 3 → length (column (p .priority) (v .queues)) < room
-    → Fits (v .control .profile) (v .clock .time) (p .priority) (v .clock .time) p → SoundView v → Stays (joined v p)
+    → Fits (v .control .profile) (v .clock .time) (p .priority) (v .clock .time) p → SoundView v → SoundView (joined v p)
 joined-sound v p n a f h =
     record {
       live = h .live;
@@ -156,7 +152,7 @@ effect-sound v (words stamp ws) h n =
 effect-sound v (count stamp busy) h n =
     sample-sound v stamp busy (passed-time v (count stamp busy) n) (good-count busy (n .1 .1 .1 .0)) h
 effect-sound v (offer stamp id priority ontime lifetime) h n =
-    let p : Packet = record { id = id; priority = priority; ontime = ontime; lifetime = lifetime; arrival = moved v stamp .clock .time } in
+    let p : Packet = record { id = id; priority = priority; ontime = ontime; lifetime = lifetime; arrival = stepped (v .clock) stamp .time } in
     joined-sound (cleared v stamp) p (omega (tested, n .1 .1 .1 .0)) (omega (tested, n .1 .1 .1 .1 .1 .1 .0))
     (record {
       own = refl;

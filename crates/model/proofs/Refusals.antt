@@ -10,12 +10,9 @@ use Rattle.rules.specs.Refusals.{firstOf, FirstHolds, NoneHolds}
 use Rattle.rules.proofs.Cases.{on-cond}
 use Rattle.rules.proofs.Refusals.{Numbered, first-of, of-first, first-numbered, of-none}
 use Rattle.model.specs.declared.Answer.the-variants.{Refused}
-use Rattle.model.specs.Answers.{isRefused}
-use Rattle.model.specs.View.{View, Outcome, gives}
-use Rattle.model.specs.Calls.{Call, words, count, offer, poll}
+use Rattle.model.specs.State.{isRefused, View, Outcome, gives, Call, words, count, offer, poll}
 use Rattle.model.specs.Effects.{Choice, nothing, chosen, choice, closed, cleared, polled, effect}
-use Rattle.model.specs.Refusals.{checks}
-use Rattle.model.specs.Gate.{call, RefusalsChangeNothing, RefusalsAreExact}
+use Rattle.model.specs.Gate.{checks, call, RefusalsChangeNothing, RefusalsAreExact}
 use Rattle.model.proofs.Cases.{clash}
 
 -- no effect is a refusal

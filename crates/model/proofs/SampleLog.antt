@@ -10,17 +10,14 @@ use Rattle.rules.specs.Levels.{wantedBy, towards, waitBy}
 use Rattle.rules.specs.Wait.{waitOf}
 use Rattle.model.specs.declared.Answer.{Answer}
 use Rattle.model.specs.declared.Answer.the-variants.{Ready, Taken, Sent, Idle, Closed, Refused}
-use Rattle.model.specs.View.{View, fresh}
-use Rattle.model.specs.Sound.{inOrder, queueSound, sound}
-use Rattle.model.specs.Calls.{Call, count, offer, poll}
+use Rattle.model.specs.State.{View, fresh, Call, count, offer, poll, inOrder, queueSound, sound}
 use Rattle.model.specs.Effects.{sampled, keep, choice, closed, effect}
-use Rattle.model.specs.Refusals.{checks}
-use Rattle.model.specs.Gate.{make, call}
-use Rattle.model.specs.Journal.{Event, opened, lowest, picked, journalOf}
+use Rattle.model.specs.Gate.{checks, make, call}
+use Rattle.model.specs.Journal.{opened, lowest, picked, journalOf}
 use Rattle.model.specs.Claims.{viewAfter, events}
 
 answersOf : View → List Call → List Answer
-answersOf v cs = map (λ (e : Event). e .answer) (events v cs)
+answersOf v cs = map (λ (e : Call × Answer). e .1) (events v cs)
 
 -- the records of the sample log behind its make
 sampleCalls : List Call

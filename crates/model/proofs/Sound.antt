@@ -12,11 +12,9 @@ use Rattle.rules.specs.Refusals.{NoneHolds}
 use Rattle.model.specs.declared.Packet.{Packet}
 use Rattle.model.specs.declared.Control.{Control}
 use Rattle.model.specs.declared.Last.{Last}
-use Rattle.model.specs.View.{View, yes}
-use Rattle.model.specs.Sound.{allOf, controlRules, lastRules, viewRules, sound}
-use Rattle.model.specs.Calls.{Call, stampOf}
-use Rattle.model.specs.Effects.{moved, keep, cleared, choice}
-use Rattle.model.specs.Refusals.{checks}
+use Rattle.model.specs.State.{View, viewFrom, Call, stampOf, allOf, controlRules, lastRules, viewRules, sound}
+use Rattle.model.specs.Effects.{stepped, keep, cleared, choice}
+use Rattle.model.specs.Gate.{checks}
 use Rattle.model.proofs.Tests.{tested, all-true}
 use Rattle.model.proofs.Fours.{Fours, fours-each}
 use Rattle.model.proofs.SoundQueues.{Queued, test-queued, queued-test, queued-later, queued-keep, queued-tail, OfChoice, of-choice}
@@ -28,15 +26,15 @@ pub record SoundControl (k : Control) : Type 0 where
   pub smoothed : k .smoothed ≤ fullLoad
   pub kept : k .kept ≤ fullLoad
   pub flag : k .pairing ≤ 1
-  pub pairing : cond (yes (k .pairing)) (eqb (k .profile) 3) (eqb (k .kept) 0) ≡ true
+  pub pairing : cond (eqb (k .pairing) 1) (eqb (k .profile) 3) (eqb (k .kept) 0) ≡ true
 
 pub record SoundLast (profile now : ℕ) (l : Last) : Type 0 where
   pub flag : l .any ≤ 1
   pub past : l .at ≤ now
-  pub fields : cond (yes (l .any)) (ontimeAllowed profile (l .ontime)) (eqb (l .at) 0 && eqb (l .ontime) 0) ≡ true
+  pub fields : cond (eqb (l .any) 1) (ontimeAllowed profile (l .ontime)) (eqb (l .at) 0 && eqb (l .ontime) 0) ≡ true
 
 pub record SoundView (v : View) : Type 0 where
-  pub live : yes (v .live) ≡ true
+  pub live : eqb (v .live) 1 ≡ true
   pub control : SoundControl (v .control)
   pub time : v .clock .time ≤ endOfTime
   pub last : SoundLast (v .control .profile) (v .clock .time) (v .last)
@@ -100,12 +98,15 @@ view-test v h =
     )
 
 -- the on-time of the last admission
-pub last-allowed : (profile now : ℕ) (l : Last) → SoundLast profile now l → yes (l .any) ≡ true
+pub last-allowed : (profile now : ℕ) (l : Last) → SoundLast profile now l → eqb (l .any) 1 ≡ true
     → ontimeAllowed profile (l .ontime) ≡ true
 last-allowed profile now l h some = rw some at (h .fields)
 
 -- the clock
-pub moved-sound : (v : View) (stamp : ℕ) → moved v stamp .clock .time ≤ endOfTime → SoundView v → SoundView (moved v stamp)
+abbrev pub moved : View → ℕ → View
+moved v stamp = viewFrom (v .live) (stepped (v .clock) stamp) (v .control) (v .last) (v .queues)
+
+pub moved-sound : (v : View) (stamp : ℕ) → stepped (v .clock) stamp .time ≤ endOfTime → SoundView v → SoundView (moved v stamp)
 moved-sound v stamp k h =
     record {
       live = h .live;
@@ -113,17 +114,17 @@ moved-sound v stamp k h =
       time = k;
       last = record { flag = h .last .flag; past = omega (arith, h .last .past); fields = h .last .fields };
       queues =
-          fours-each (Queued (v .control .profile) (v .clock .time)) (Queued (v .control .profile) (moved v stamp .clock .time))
+          fours-each (Queued (v .control .profile) (v .clock .time)) (Queued (v .control .profile) (stepped (v .clock) stamp .time))
           (λ (ps : List Packet). ps)
-          (λ n ps. queued-later (v .control .profile) (v .clock .time) (moved v stamp .clock .time) n ps (omega arith))
+          (λ n ps. queued-later (v .control .profile) (v .clock .time) (stepped (v .clock) stamp .time) n ps (omega arith))
           (v .queues) (h .queues);
     }
 
 -- expiry
-pub cleared-sound : (v : View) (stamp : ℕ) → moved v stamp .clock .time ≤ endOfTime → SoundView v → SoundView (cleared v stamp)
+pub cleared-sound : (v : View) (stamp : ℕ) → stepped (v .clock) stamp .time ≤ endOfTime → SoundView v → SoundView (cleared v stamp)
 cleared-sound v stamp k h =
     let m = moved-sound v stamp k h in
-    let at = moved v stamp .clock .time in
+    let at = stepped (v .clock) stamp .time in
     record {
       live = m .live;
       control = m .control;
@@ -140,6 +141,6 @@ chosen-queued v h =
     of-choice (Queued (v .control .profile) (v .clock .time)) (queued-tail (v .control .profile) (v .clock .time)) (v .queues) (h .queues)
 
 -- a call that passes its checks doesn't pass the end of time
-pub passed-time : (v : View) (c : Call) → NoneHolds (checks v c) → moved v (stampOf c) .clock .time ≤ endOfTime
+pub passed-time : (v : View) (c : Call) → NoneHolds (checks v c) → stepped (v .clock) (stampOf c) .time ≤ endOfTime
 unfolding checks passesEnd
 passed-time v c h = omega (tested, h .1 .1 .0)

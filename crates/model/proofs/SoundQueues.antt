@@ -7,11 +7,10 @@ use native.Mathlib.Omega.{arith}
 use lib.Dec.{leb}
 use lib.ListN.{length, length-append}
 use borrow.Author.Tests.{le-leb, eq-eqb}
-use Rattle.rules.specs.Profiles.{ontimeAllowed}
+use Rattle.rules.specs.Profiles.{ontimeAllowed, room, lifetimeAllowed}
 use Rattle.rules.proofs.Cases.{on-cond, both}
 use Rattle.model.specs.declared.Packet.{Packet}
-use Rattle.model.specs.Queues.{Four, four}
-use Rattle.model.specs.Sound.{room, allOf, lifetimeAllowed, packetRules, inOrder, queueSound}
+use Rattle.model.specs.State.{Four, four, allOf, packetRules, inOrder, queueSound}
 use Rattle.model.specs.Effects.{unexpired, keep, atBack, Choice, nothing, chosen, choice}
 use Rattle.model.proofs.Tests.{tested, all-true}
 use Rattle.model.proofs.Fours.{Fours}

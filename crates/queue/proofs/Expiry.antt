@@ -11,10 +11,9 @@ use lib.Seq.{take-suc}
 use borrow.Author.Tests.{lt-leb}
 use Rattle.rules.proofs.Cases.{split, on-cond}
 use Rattle.model.specs.declared.Packet.{Packet}
-use Rattle.model.specs.Answers.{noPacket}
-use Rattle.model.specs.Sound.{room}
+use Rattle.rules.specs.Profiles.{room}
 use Rattle.model.specs.Effects.{unexpired, keep}
-use Rattle.queue.specs.Layout.{anyExpired}
+use Rattle.queue.specs.Layout.{noPacket, anyExpired}
 
 keep-append : (now : ℕ) (ps qs : List Packet) → keep now (ps ++ qs) ≡ keep now ps ++ keep now qs
 unfolding keep

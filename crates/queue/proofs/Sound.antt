@@ -11,10 +11,10 @@ use lib.Seq.{drop-append-seam, length-take-le}
 use borrow.Author.Tests.{eqb-true, leb-true, le-leb, lt-leb}
 use Rattle.rules.proofs.Cases.{split, both}
 use Rattle.model.specs.declared.Packet.{Packet}
-use Rattle.model.specs.Answers.{noPacket}
-use Rattle.model.specs.Sound.{room, inOrder, queueSound}
+use Rattle.rules.specs.Profiles.{room}
+use Rattle.model.specs.State.{inOrder, queueSound}
 use Rattle.queue.specs.declared.Queue.{Queue}
-use Rattle.queue.specs.Layout.{items, filled, packed, Packed, isZero, allZero, tidy, soundQueue}
+use Rattle.queue.specs.Layout.{noPacket, items, filled, packed, Packed, isZero, allZero, tidy, soundQueue}
 use Rattle.queue.proofs.Packing.{items-packed, same-queue}
 
 zero-is : (p : Packet) → isZero p ≡ true → p ≡ noPacket

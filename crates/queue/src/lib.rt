@@ -3,7 +3,7 @@ ghost use mathlib.Core.Path.{_≡_};
 ghost use mathlib.Core.Bool.{true};
 ghost use mathlib.Core.List.{[]};
 ghost use Prim.Native.Nat.{_<_, _≤_};
-ghost use Rattle.model.specs.Sound.{allOf, packetRules, inOrder};
+ghost use Rattle.model.specs.State.{allOf, packetRules, inOrder};
 ghost use Rattle.model.specs.Effects.{unexpired};
 ghost use lib.ListN.{drop};
 ghost use Rattle.queue.specs.Layout.{items, packed, allZero, Packed, isZero, soundQueue, anyExpired, cleared, pushed, popped, fullAt};

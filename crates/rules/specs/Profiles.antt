@@ -89,3 +89,11 @@ ontimeAllowed profile ontime = within 1 (mostOntime profile) ontime
 -- duty 600,000 to 30,000,000
 abbrev pub dutyAllowed : ℕ → Bool
 dutyAllowed duty = within (profile3 .leastduty) (profile3 .mostduty) duty
+
+-- "lifetime 0 or above 60,000,000" is bad
+abbrev pub lifetimeAllowed : ℕ → Bool
+lifetimeAllowed lifetime = within 1 60000000 lifetime
+
+-- "four queues of up to 5 packets"
+abbrev pub room : ℕ
+room = 5

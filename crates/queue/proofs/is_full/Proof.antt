@@ -5,7 +5,7 @@ use mathlib.Core.Bool.{not}
 use native.Mathlib.Omega.{arith}
 use lib.ListN.{length}
 use borrow.Author.Tests.{lt-leb}
-use Rattle.model.specs.Sound.{room}
+use Rattle.rules.specs.Profiles.{room}
 use Rattle.model.specs.Effects.{keep}
 use Rattle.queue.specs.Layout.{items, fullAt}
 use Rattle.queue.proofs.Known.{five}

@@ -5,7 +5,7 @@ use lib.ListN.{length, take, drop}
 use borrow.Author.Needs.{needs}
 use borrow.Author.Tests.{not-true, not-false}
 use native.Mathlib.Omega.{arith}
-use Rattle.model.specs.Sound.{inOrder}
+use Rattle.model.specs.State.{inOrder}
 use Rattle.queue.proofs.Known.{five}
 use Rattle.queue.proofs.Walk.{next, done}
 use Rattle.queue.proofs.is_in_order.Statement.{statement}

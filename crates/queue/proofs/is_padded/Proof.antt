@@ -7,8 +7,7 @@ use borrow.Author.Needs.{needs}
 use borrow.Author.Tests.{not-true, not-false}
 use native.Mathlib.Numerals.{add-one}
 use native.Mathlib.Omega.{arith}
-use Rattle.model.specs.Answers.{noPacket}
-use Rattle.queue.specs.Layout.{allZero}
+use Rattle.queue.specs.Layout.{noPacket, allZero}
 use Rattle.queue.proofs.Known.{five}
 use Rattle.queue.proofs.is_padded.Statement.{statement}
 use Rattle.queue.proofs.is_padded.Tie as tie

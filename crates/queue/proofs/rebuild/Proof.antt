@@ -5,10 +5,9 @@ use mathlib.Core.Logic.{⊎-elim}
 use lib.ListN.{length, take, getD, length-take}
 use borrow.Author.Needs.{needs}
 use native.Mathlib.Omega.{arith}
-use Rattle.model.specs.Answers.{noPacket}
 use Rattle.model.specs.Effects.{keep}
 use Rattle.queue.specs.declared.Queue.{Queue}
-use Rattle.queue.specs.Layout.{packed, cleared, pushed}
+use Rattle.queue.specs.Layout.{noPacket, packed, cleared, pushed}
 use Rattle.queue.proofs.Known.{five}
 use Rattle.queue.proofs.Packing.{packed-Packed, pushed-packed}
 use Rattle.queue.proofs.Expiry.{keep-yes, keep-no, length-keep}

@@ -9,8 +9,7 @@ use borrow.Author.Needs.{needs}
 use borrow.Author.Tests.{ne-eqb, eq-eqb, lt-leb, le-leb, not-true, not-false, ltb-true, ltb-false}
 use native.Mathlib.Omega.{arith}
 use Rattle.rules.specs.Clock.{passesEnd, endOfTime}
-use Rattle.model.specs.View.{yes}
-use Rattle.model.specs.Sound.{allOf, controlRules, lastRules, sound}
+use Rattle.model.specs.State.{allOf, controlRules, lastRules, sound}
 use Rattle.gate.specs.declared.State.{State}
 use Rattle.gate.specs.Layout.{queueAt, LaidOut, soundState}
 use Rattle.gate.specs.Requests.{soundQueues}

@@ -10,7 +10,7 @@ use native.Mathlib.Omega.{arith}
 use lib.ListN.{length, set}
 use borrow.Author.Needs.{needs}
 use Rattle.model.specs.declared.Clock.{Clock}
-use Rattle.model.specs.Calls.{Call}
+use Rattle.model.specs.State.{Call}
 use Rattle.model.specs.Effects.{stepped}
 use Rattle.queue.specs.declared.Queue.{Queue}
 use Rattle.queue.specs.Layout.{cleared}
