@@ -6,7 +6,8 @@ ghost use Rattle.rules.specs.Refusals.{firstOf};
 ghost use Rattle.model.specs.State.{allOf, controlRules, lastRules};
 ghost use Rattle.model.specs.Effects.{stepped, sampled};
 ghost use Rattle.decide.specs.Decisions.{offerChecks, packetOf, leftAt};
-ghost use Rattle.decide.specs.Plans.{edited, EditFits, pollPlan};
+ghost use Rattle.decide.specs.Plans.{edited, EditFits, plan, pollPlan};
+ghost use Rattle.decide.specs.declared.Edit.the-variants.{Keep};
 use model::Answer;
 use model::Clock;
 use model::Control;
@@ -192,6 +193,21 @@ pub fn edit_queue(q: Queue, edit: Edit) -> Queue
     }
 }
 
+// A plan that edits no queue.
+pub fn keeping(clock: Clock, control: Control, last: Last, clears: usize, answer: Answer) -> Plan
+    ensures { λ r. ⌜ r ≡ plan clock control last clears 0 Keep answer ⌝ }
+{
+    Plan {
+        clock,
+        control,
+        last,
+        clears,
+        at: 0,
+        edit: Edit::Keep,
+        answer,
+    }
+}
+
 // What a poll is to do, by what it finds: IDLE, CLOSED or SENT.
 pub fn plan_poll(clock: Clock, control: Control, last: Last, choice: Choice) -> Plan
     requires { ⌜ allOf (controlRules control) ≡ true ⌝ }
@@ -199,27 +215,11 @@ pub fn plan_poll(clock: Clock, control: Control, last: Last, choice: Choice) -> 
     ensures { λ r. ⌜ r ≡ pollPlan clock control last choice ⌝ }
 {
     match choice {
-        Choice::Nothing => Plan {
-            clock,
-            control,
-            last,
-            clears: 4,
-            at: 0,
-            edit: Edit::Keep,
-            answer: Answer::Idle,
-        },
+        Choice::Nothing => keeping(clock, control, last, 4, Answer::Idle),
         Choice::Next(k, p) => {
             let left = left_of(control, last, clock.time);
             if left != 0 {
-                return Plan {
-                    clock,
-                    control,
-                    last,
-                    clears: 4,
-                    at: 0,
-                    edit: Edit::Keep,
-                    answer: Answer::Closed(left),
-                };
+                return keeping(clock, control, last, 4, Answer::Closed(left));
             }
             let sent = Last {
                 at: clock.time,

@@ -79,19 +79,15 @@ changesIn Keep = false
 changesIn (Push p) = true
 changesIn Pop = true
 
--- a plan done
+-- a plan done, from the queues that it leaves
+abbrev pub outcomeWith : List Queue → ℕ → Plan → Outcome
+outcomeWith qs live p =
+    gives (record { queues = qs; clock = p .clock; control = p .control; last = p .last; live = live }) (p .answer)
+
 unfoldable pub done : State → Plan → Outcome
 done s p =
     let qs = clearedTo (p .clears) (p .clock .time) (s .queues) in
-    gives
-    (record {
-      queues = set qs (p .at) (edited (p .edit) (queueAt qs (p .at)));
-      clock = p .clock;
-      control = p .control;
-      last = p .last;
-      live = s .live;
-    })
-    (p .answer)
+    outcomeWith (set qs (p .at) (edited (p .edit) (queueAt qs (p .at)))) (s .live) p
 
 -- what doing a plan needs: queues are cleared only in a sound state that is laid out, and the edit fits its queue
 pub record Fits (s : State) (p : Plan) : Type 0 where

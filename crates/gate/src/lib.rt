@@ -6,7 +6,7 @@ ghost use Prim.Native.Nat.{_≤_};
 ghost use Rattle.queue.specs.Layout.{Packed};
 ghost use Rattle.gate.specs.Layout.{viewOf, stateOf, LaidOut, soundState, callOn, makeState};
 ghost use Rattle.gate.specs.Requests.{callOf, queueOf, refusalWith, searchesOn, chosenFrom};
-ghost use Rattle.gate.specs.Plans.{Plannable, planWith, changesIn};
+ghost use Rattle.gate.specs.Plans.{Plannable, planWith, changesIn, outcomeWith};
 ghost use Rattle.gate.specs.Runs.{Runs};
 use decide::Choice;
 use decide::Edit;
@@ -122,29 +122,13 @@ fn plan_with(
     ensures { λ r. ⌜ r ≡ planWith given control last number request stamp choice ⌝ }
 {
     if number != 0 {
-        return Plan {
-            clock: given,
-            control,
-            last,
-            clears: 0,
-            at: 0,
-            edit: Edit::Keep,
-            answer: Answer::Refused(number),
-        };
+        return decide::keeping(given, control, last, 0, Answer::Refused(number));
     }
     let clock = decide::clock_at(given, stamp);
     match request {
         Request::Count(busy) => {
             let next = decide::control_after(control, rules::load(busy));
-            Plan {
-                clock,
-                control: next,
-                last,
-                clears: 0,
-                at: 0,
-                edit: Edit::Keep,
-                answer: Answer::Taken,
-            }
+            decide::keeping(clock, next, last, 0, Answer::Taken)
         }
         Request::Offered(o) => {
             let p = decide::packet_of(o, clock.time);
@@ -232,14 +216,35 @@ impl State {
         found
     }
 
-    // One call: what it is to do is decided first, then done in place.
-    pub fn step(mut self, request: Request, stamp: u32) -> Outcome
+    // What a call gives: the queues as they are, the rest as planned. That is faster than to store the rest in the state first.
+    fn outcome_of(self, plan: Plan) -> Outcome
+        ensures { λ r. ⌜ r ≡ outcomeWith (self .queues) (self .live) plan ⌝ }
+    {
+        let queues = self.queues;
+        let clock = plan.clock;
+        let control = plan.control;
+        let last = plan.last;
+        let state = State {
+            queues,
+            clock,
+            control,
+            last,
+            live: self.live,
+        };
+        let answer = plan.answer;
+        Outcome { state, answer }
+    }
+
+    // One call, by whether the state is sound: what it is to do is decided first, then done. It is not split further, since
+    // each function that takes the state by value may cost a copy of it.
+    fn step_with(mut self, sound: bool, request: Request, stamp: u32) -> Outcome
+        requires { ⌜ sound ≡ soundState self ⌝ }
+        requires { ⌜ (sound ≡ true → LaidOut self) ⌝ }
         ensures { λ r. ⌜ r ≡ callOn self (callOf request stamp) ⌝ }
     {
         let given = self.clock;
         let control = self.control;
         let last = self.last;
-        let sound = self.is_sound();
         let k = queue_of(request);
         let q = self.queues[k];
         let number = refusal(sound, given, control.profile, q, request, stamp);
@@ -249,18 +254,13 @@ impl State {
             choice = self.choose(clock.time);
         }
         let plan = plan_with(given, control, last, number, request, stamp, choice);
-        let clock = plan.clock;
-        self.clock = clock;
-        let control = plan.control;
-        self.control = control;
-        let last = plan.last;
-        self.last = last;
+        let now = plan.clock.time;
         let n = plan.clears;
         let mut i: usize = 0;
         while i < n {
             let q = self.queues[i];
-            if queue::has_expired(q, clock.time) {
-                let e = queue::rebuild(q, clock.time);
+            if queue::has_expired(q, now) {
+                let e = queue::rebuild(q, now);
                 self.queues[i] = e;
             }
             i += 1;
@@ -272,11 +272,23 @@ impl State {
             let e = decide::edit_queue(q, edit);
             self.queues[k] = e;
         }
-        let answer = plan.answer;
-        Outcome {
-            state: self,
-            answer,
-        }
+        self.outcome_of(plan)
+    }
+
+    // One call.
+    pub fn step(mut self, request: Request, stamp: u32) -> Outcome
+        ensures { λ r. ⌜ r ≡ callOn self (callOf request stamp) ⌝ }
+    {
+        let sound = self.is_sound();
+        self.step_with(sound, request, stamp)
+    }
+
+    // One call on a state that is known to be sound: it is not tested again.
+    pub fn step_sound(mut self, request: Request, stamp: u32) -> Outcome
+        requires { ⌜ soundState self ≡ true ⌝ }
+        ensures { λ r. ⌜ r ≡ callOn self (callOf request stamp) ⌝ }
+    {
+        self.step_with(true, request, stamp)
     }
 
     // A sample by its busy count.

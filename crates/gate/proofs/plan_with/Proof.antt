@@ -34,9 +34,12 @@ plan-as : (c : tie.Else1) (r : Request) → c .before .args .request ≡ r
 unfolding planWith
 plan-as c r e = rw (c .if1 .left, e)
 
+keeping-requires : tie.Need-keeping-requires
+keeping-requires c κs = search needs
+
 returns : tie.Need-returns
 unfolding planWith
-returns c = rw (ne-eqb _ _ (c .if1 .taken))
+returns c = c .keeping .ensures ∙ rw (ne-eqb _ _ (c .before .if1 .taken))
 
 clock-at-requires : tie.Need-clock-at-requires
 clock-at-requires c κs = plannable c .in-time
@@ -53,14 +56,17 @@ control-after-requires c κs =
     let busy = c .before .before .request .given .0 .0 in
     (plannable p .steered, rw (c .load .ensures) (good-load busy (good-busy p busy (c .before .before .request .given .1))))
 
+keeping-requires-2 : tie.Need-keeping-requires-2
+keeping-requires-2 c κs = search needs
+
 enum-known-request-2 : tie.Need-enum-known-request-2
 enum-known-request-2 c = search needs
 
 packet-of-requires : tie.Need-packet-of-requires
 packet-of-requires c κs = search needs
 
-cast-t20 : tie.Need-cast-t20
-cast-t20 c = search needs
+cast-t18 : tie.Need-cast-t18
+cast-t18 c = search needs
 
 enum-told : tie.Need-enum-told
 enum-told c = search needs
@@ -76,11 +82,13 @@ plan-poll-requires c κs =
 returns-2 : tie.Need-returns-2
 unfolding requestPlan
 returns-2 c =
-    let p = c .before .before .before .before .before .before in
+    let a = c .before in
+    let p = a .before .before .before .before .before .before in
     let s = p .before .args in
-    ap₂ (λ (k : Clock) (m : Control). plan k m (s .last) 0 0 Keep Taken) (c .before .before .before .before .before .clock-at .ensures)
-    (c .control-after .ensures ∙ ap (sampled (s .control)) (c .before .load .ensures))
-    ∙ plan-as p _ (c .before .before .before .request .given .1)
+    c .keeping2 .ensures
+    ∙ ap₂ (λ (k : Clock) (m : Control). plan k m (s .last) 0 0 Keep Taken) (a .before .before .before .before .before .clock-at .ensures)
+    (a .control-after .ensures ∙ ap (sampled (s .control)) (a .before .load .ensures))
+    ∙ plan-as p _ (a .before .before .before .request .given .1)
 
 returns-3 : tie.Need-returns-3
 unfolding requestPlan
@@ -105,14 +113,16 @@ pub plan-with-spec : {M : Type 1} → statement M
 plan-with-spec =
     tie.close
     (tie.spec
+    keeping-requires
     returns
     clock-at-requires
     enum-known-request
     load-requires
     control-after-requires
+    keeping-requires-2
     enum-known-request-2
     packet-of-requires
-    cast-t20
+    cast-t18
     enum-told
     plan-poll-requires
     returns-2
