@@ -3,5 +3,6 @@ pub mod Buffers
 pub mod Decimal
 pub mod Lengths
 pub mod Asking
+pub mod Soundness
 pub mod Pieces
 pub mod SampleLog

@@ -3,6 +3,7 @@
 //! `PRESSCURLEW_REPLAY` names the program; without it, the one that `rt check replay` builds is taken.
 
 use std::env;
+use std::fs::File;
 use std::io::Write;
 use std::path::PathBuf;
 use std::process::{Command, Stdio};
@@ -167,4 +168,13 @@ fn to_the_end_of_time() {
         records.push(record(&mut rng, &mut stamp));
     }
     compare("running time to 10^15, seed 61", &bytes(&records), 1 << 16);
+}
+
+/// A folder opens, but cannot be read.
+#[test]
+fn a_failed_read_has_no_last_line() {
+    let folder = File::open(env!("CARGO_MANIFEST_DIR")).expect("the folder opens");
+    let output = Command::new(program()).stdin(folder).output().expect("the program ends");
+    assert_eq!(output.stdout, b"");
+    assert_eq!(output.stderr, b"replay: a read failed\n");
 }
