@@ -7,6 +7,7 @@ help:
 	@echo 'make demo    a trailer in a jam: the gate at work, the verdict, and a picture'
 	@echo 'make test    the merge gate: proofs, archives, Rust tests, C examples'
 	@echo 'make bench   the calls beside the same calls in plain Rust'
+	@echo 'make bench-replay   the program replay beside the same in plain Rust'
 
 # The program that answers: the proved one, or without the Rattle kit the second one, which gives the same output.
 REPLAY := $(shell command -v rt >/dev/null && grep -qs '^replay:' crates.txt && echo target/bin/replay || echo target/rust/release/reference-replay)
@@ -62,8 +63,15 @@ bench: $(ARCHIVES)
 	@echo
 	@$(CARGO_RUN) --package bench --bin gate
 
-# rt proves a crate before it writes its archive.
+bench-replay: $(ARCHIVES) target/bin/replay
+	@$(CARGO_BUILD) --package bench
+	@rust/bench/replay
+
+# rt proves a crate before it writes its archive, and a program before it compiles it.
+target/bin/replay: $(PROVED)
+	rt check replay
+
 target/staticlib/lib%.a: $(PROVED)
 	rt staticlib $*
 
-.PHONY: help demo demo-build test bench
+.PHONY: help demo demo-build test bench bench-replay

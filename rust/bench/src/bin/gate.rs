@@ -1,5 +1,6 @@
-//! Measures the gate, in a loop inside Rattle, beside plain Rust: (a) by value with the soundness test at every
-//! call, (b) in place with none. The three run the same row of calls in turn, and must end in the same state.
+//! Measures the gate, in a loop inside Rattle and by one C call after the other, beside plain Rust: (a) by value with
+//! the soundness test at every call, (b) in place with none. The four run the same row of calls in turn, and must end in
+//! the same state.
 
 #[path = "../plain.rs"]
 #[allow(dead_code)]
@@ -8,10 +9,11 @@ mod plain;
 use std::hint::black_box;
 use std::time::Instant;
 
-use plain::{by_value, Answer, State};
+use plain::{by_value, Answer, Packet, Queue, State};
+use presscurlew::sys;
 
-/// Rounds of each side, odd, so that the median is one of them.
-const ROUNDS: usize = 201;
+/// Rounds of each side: as many at each place of the stack.
+const ROUNDS: usize = 13 * PLACES.len();
 const CALLS: usize = 3000;
 
 #[derive(Clone, Copy)]
@@ -29,6 +31,61 @@ fn rattle(state: State, row: &[[u32; 6]]) -> Tally {
     let numbers = row.as_flattened();
     // SAFETY: the archive reads `numbers.len()` numbers behind the pointer and keeps neither.
     unsafe { presscurlew_run_row(state, numbers.as_ptr(), numbers.len()) }
+}
+
+fn packet(p: sys::Packet) -> Packet {
+    Packet {
+        id: p.id,
+        priority: p.priority,
+        ontime: p.ontime,
+        lifetime: p.lifetime,
+        arrival: p.arrival,
+    }
+}
+
+fn queue(q: sys::Queue) -> Queue {
+    Queue {
+        len: q.len as usize,
+        slots: q.slots.map(packet),
+    }
+}
+
+fn state(s: sys::State) -> State {
+    State {
+        queues: s.queues.map(queue),
+        time: s.clock.time,
+        stamp: s.clock.stamp,
+        gap: 0,
+        profile: s.control.profile,
+        level: s.control.level,
+        duty: s.control.duty,
+        smoothed: s.control.smoothed,
+        kept: s.control.kept,
+        pairing: s.control.pairing,
+        at: s.last.at,
+        ontime: s.last.ontime,
+        any: s.last.any,
+        live: s.live,
+    }
+}
+
+/// One C call a turn, the state by value there and back. It starts from a fresh state, as all do.
+fn by_c_calls(start: State, row: &[[u32; 6]]) -> Tally {
+    let mut now = sys::presscurlew_make(start.profile, start.stamp).state;
+    let mut sent = 0;
+    for &[kind, a, b, c, d, stamp] in row {
+        let turn = match kind {
+            0 => sys::presscurlew_sample_count(now, a, stamp),
+            1 => sys::presscurlew_offer(now, a, b, c, d, stamp),
+            _ => sys::presscurlew_poll(now, stamp),
+        };
+        now = turn.state;
+        sent += (turn.reply.kind == sys::SENT) as u64;
+    }
+    Tally {
+        state: state(now),
+        sent,
+    }
 }
 
 fn count(sent: &mut u64, answer: Answer) {
@@ -118,48 +175,101 @@ fn row(mix: Mix, step: u32) -> Vec<[u32; 6]> {
         .collect()
 }
 
-fn timed(run: fn(State, &[[u32; 6]]) -> Tally, start: State, row: &[[u32; 6]]) -> f64 {
+type Run = fn(State, &[[u32; 6]]) -> Tally;
+
+const SIDES: [Run; 4] = [rattle, by_c_calls, valued, in_place];
+
+/// Times one round, `N` bytes further down the stack. Copies of a state take longer where they straddle cache lines, so
+/// that a process whose stack lies well for one side would favour it.
+#[inline(never)]
+fn timed<const N: usize>(run: Run, start: State, row: &[[u32; 6]]) -> f64 {
+    let mut room = [0u8; N];
+    black_box(&mut room);
     let began = Instant::now();
     black_box(run(black_box(start), black_box(row)));
     began.elapsed().as_nanos() as f64 / row.len() as f64
 }
+
+/// Places over a page of the stack, four at each offset in a cache line that a stack can have.
+const PLACES: [fn(Run, State, &[[u32; 6]]) -> f64; 16] = [
+    timed::<16>,
+    timed::<288>,
+    timed::<560>,
+    timed::<832>,
+    timed::<1104>,
+    timed::<1376>,
+    timed::<1648>,
+    timed::<1920>,
+    timed::<2192>,
+    timed::<2464>,
+    timed::<2736>,
+    timed::<3008>,
+    timed::<3280>,
+    timed::<3552>,
+    timed::<3824>,
+    timed::<4096>,
+];
 
 fn median(mut times: Vec<f64>) -> f64 {
     times.sort_by(f64::total_cmp);
     times[times.len() / 2]
 }
 
-fn measure(name: &str, profile: u32, mix: Mix, step: u32) {
+/// The least and the greatest median of a place. Round by round the places take turns.
+fn spread(times: &[f64]) -> [f64; 2] {
+    let mut places: Vec<f64> = (0..PLACES.len())
+        .map(|k| {
+            let rounds = times.iter().skip(k).step_by(PLACES.len());
+            median(rounds.copied().collect())
+        })
+        .collect();
+    places.sort_by(f64::total_cmp);
+    [places[0], places[PLACES.len() - 1]]
+}
+
+/// Prints a line, and hands back the spread of each side over the places.
+fn measure(name: &str, profile: u32, mix: Mix, step: u32) -> [[f64; 2]; 4] {
     let row = row(mix, step);
     let start = State::new(profile, 0);
-    let ends = [rattle, valued, in_place].map(|run| run(start, &row));
+    let ends = SIDES.map(|run| run(start, &row)).map(|mut end| {
+        end.state.gap = 0; // padding in the archive's state
+        end
+    });
     for other in &ends[1..] {
         assert!(ends[0].state == other.state, "{name}: the states differ");
         assert_eq!(ends[0].sent, other.sent, "{name}: the admissions differ");
     }
-    let mut times = [Vec::new(), Vec::new(), Vec::new()];
+    let mut times = SIDES.map(|_| Vec::new());
     for turn in 0..ROUNDS {
-        for k in 0..3 {
-            let side = (turn + k) % 3;
-            let run = [rattle, valued, in_place][side];
-            times[side].push(timed(run, start, &row));
+        for k in 0..SIDES.len() {
+            let side = (turn + k) % SIDES.len();
+            let place = PLACES[turn % PLACES.len()];
+            times[side].push(place(SIDES[side], start, &row));
         }
     }
-    let [ours, a, b] = times.map(median);
+    let spreads = times.each_ref().map(|side| spread(side));
+    let [ours, c, a, b] = times.map(median);
     println!(
-        "{name:<14}{profile:>8}{ours:>10.1}{a:>10.1}{b:>10.1}{:>8.2}{:>8.2}",
+        "{name:<14}{profile:>8}{ours:>10.1}{c:>10.1}{a:>10.1}{b:>10.1}{:>8.2}{:>8.2}",
         ours / a,
         ours / b
     );
+    spreads
 }
 
 fn main() {
     println!("ns a call, median of {ROUNDS} rounds of {CALLS} calls each, in turn");
-    println!("mix            profile    Rattle       (a)       (b)   / (a)   / (b)");
+    println!("mix            profile    Rattle   C calls       (a)       (b)   / (a)   / (b)");
+    let mut by_place = Vec::new();
     for profile in [1, 3] {
-        measure("few waiting", profile, few, 70_000);
-        measure("all slots full", profile, full, 30_000);
-        measure("offer, SENT", profile, sending, 600_000);
-        measure("with samples", profile, sampled, 70_000);
+        by_place.push(measure("few waiting", profile, few, 70_000));
+        by_place.push(measure("all slots full", profile, full, 30_000));
+        by_place.push(measure("offer, SENT", profile, sending, 600_000));
+        by_place.push(measure("with samples", profile, sampled, 70_000));
     }
+    print!("first line, by the place in the stack:");
+    for (side, [least, greatest]) in ["Rattle", "C calls", "(a)", "(b)"].iter().zip(by_place[0]) {
+        print!("  {side} {least:.1} to {greatest:.1}");
+    }
+    println!();
 }
