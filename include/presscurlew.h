@@ -37,9 +37,9 @@ extern "C" {
 #endif
 
 /*
- * The refusal numbers of the gate. A call tests 9, 2 and 3, then 4, or 5 to 8, as they apply; the first
+ * The refusal numbers of the gate. A call tests 9, 2 and 3, then 4, or 5 to 8 and 11, as they apply; the first
  * that holds is the answer. A refused call changes nothing: it hands back the state that it was given,
- * clock included.
+ * clock and counts included.
  */
 enum presscurlew_refusal {
     PRESSCURLEW_BAD_PROFILE = 1,  /* make: the profile is not 1 to 3 */
@@ -50,7 +50,8 @@ enum presscurlew_refusal {
     PRESSCURLEW_BAD_ON_TIME = 6,  /* the profile does not allow this on-time */
     PRESSCURLEW_BAD_LIFETIME = 7, /* the lifetime is 0 or above 60,000,000 */
     PRESSCURLEW_QUEUE_FULL = 8,   /* 5 unexpired packets of this priority wait */
-    PRESSCURLEW_NO_STATE = 9      /* the state is not sound: make refused it, or it was changed */
+    PRESSCURLEW_NO_STATE = 9,     /* the state is not sound: make refused it, or it was changed */
+    PRESSCURLEW_SPENT = 11        /* the gate has accepted 10^15 offers; 10 is a refusal of the log program alone */
 };
 
 /*
@@ -86,8 +87,8 @@ enum presscurlew_refusal {
  *   - It samples the channel as its standard says; whether 100 ms passed between samples is not judged.
  *
  * Any state at all is answered. One that no call handed out is refused with NO_STATE unless it is sound:
- * live is 1, every field lies within the limits that are named at it, and everything unused is zero. Padding
- * bytes are not looked at.
+ * live is 1, every field lies within the limits that are named at it, the counts add up, and everything unused
+ * is zero. Padding bytes are not looked at.
  */
 
 /* A packet that waits. An unused slot is all zero. */
@@ -128,12 +129,26 @@ typedef struct presscurlew_last {
     uint32_t any;    /* 1 once something was admitted, else 0 */
 } presscurlew_last;
 
-/* The state of one gate: 576 bytes. */
+/*
+ * What the gate has counted since make, to read at any time:
+ *
+ *   accepted = sent + expired + the packets that wait
+ *
+ * The sum is that of whole numbers: counts that add up only modulo 2^64 are not sound.
+ */
+typedef struct presscurlew_counts {
+    uint64_t accepted; /* offers that were TAKEN; at most 10^15 */
+    uint64_t sent;     /* packets that were SENT */
+    uint64_t expired;  /* packets that were removed as expired, at an offer or a poll; a sample removes none */
+} presscurlew_counts;
+
+/* The state of one gate: 600 bytes. */
 typedef struct presscurlew_state {
     presscurlew_queue queues[4]; /* by priority */
     presscurlew_clock clock;
     presscurlew_control control;
     presscurlew_last last;
+    presscurlew_counts counts;
     uint32_t live; /* 1; 0 in the all-zero state that a refused make hands back */
 } presscurlew_state;
 
@@ -150,7 +165,7 @@ enum presscurlew_kind {
 /* The answer to a call. What its kind does not use is 0. */
 typedef struct presscurlew_reply {
     presscurlew_packet packet; /* SENT: the whole packet */
-    uint64_t number;           /* CLOSED: the us left, 1 to 1,000,000; REFUSED: the refusal, 1 to 9 */
+    uint64_t number;           /* CLOSED: the us left, 1 to 1,000,000; REFUSED: the refusal, 1 to 9 or 11 */
     uint32_t kind;             /* an enum presscurlew_kind */
 } presscurlew_reply;
 
@@ -162,7 +177,7 @@ typedef struct presscurlew_turn {
 
 /*
  * A fresh state: running time 0, level 0, duty 600,000, smoothed load 0, nothing kept, nothing admitted,
- * nothing waiting. `stamp` is the radio's clock now. READY.
+ * nothing waiting, nothing counted. `stamp` is the radio's clock now. READY.
  *
  * Refusals: BAD_PROFILE, with the all-zero state, which every other call refuses with NO_STATE.
  */
@@ -175,7 +190,7 @@ presscurlew_turn presscurlew_make(uint32_t profile, uint32_t stamp);
  *
  * Load is 1,000 for each busy probe. Profiles 1 and 2 move the level by at most one towards the one that the
  * load wants. Profile 3 keeps each odd sample, and with each even one updates smoothed load and duty. A
- * sample expires nothing.
+ * sample expires nothing and counts nothing.
  *
  *   uint64_t words[16] = {0};
  *   for (unsigned k = 0; k < 1000; k++)
@@ -191,21 +206,22 @@ presscurlew_turn presscurlew_sample_words(presscurlew_state state, const uint64_
 presscurlew_turn presscurlew_sample_count(presscurlew_state state, uint32_t busy, uint32_t stamp);
 
 /*
- * A packet to send. The clock moves, every expired packet of all queues is removed, and the packet joins the
- * back of its priority's queue. TAKEN.
+ * A packet to send. The clock moves, every expired packet of all queues is removed and counted, and the packet
+ * joins the back of its priority's queue and is counted as accepted. TAKEN.
  *
  *   turn = presscurlew_offer(state, 7, 1, 400, 100000, radio_clock());   a packet of 400 us, good for 100 ms
  *
- * Refusals: NO_STATE, CLOCK_BACK, CLOCK_END, BAD_PRIORITY, BAD_ON_TIME, BAD_LIFETIME, QUEUE_FULL.
+ * Refusals: NO_STATE, CLOCK_BACK, CLOCK_END, BAD_PRIORITY, BAD_ON_TIME, BAD_LIFETIME, QUEUE_FULL, SPENT.
  */
 presscurlew_turn presscurlew_offer(presscurlew_state state, uint32_t id, uint32_t priority, uint32_t ontime,
                                    uint32_t lifetime, uint32_t stamp);
 
 /*
- * Whether a packet may go, and which. The clock moves, and every expired packet of all queues is removed.
- * Then: IDLE if nothing waits; else CLOSED if less than the wait has passed since the last admission; else
- * SENT, with the oldest packet of the lowest-numbered queue that has one. presscurlew_wait, below, says
- * what the wait is; it is taken afresh at each poll, with the level or duty of that moment.
+ * Whether a packet may go, and which. The clock moves, and every expired packet of all queues is removed and
+ * counted. Then: IDLE if nothing waits; else CLOSED if less than the wait has passed since the last admission;
+ * else SENT, with the oldest packet of the lowest-numbered queue that has one, which is counted as sent.
+ * presscurlew_wait, below, says what the wait is; it is taken afresh at each poll, with the level or duty of
+ * that moment.
  *
  * Refusals: NO_STATE, CLOCK_BACK, CLOCK_END.
  */

@@ -33,6 +33,10 @@ static void parts(void) {
     FIELD(last, at);
     FIELD(last, ontime);
     FIELD(last, any);
+    SIZE(counts);
+    FIELD(counts, accepted);
+    FIELD(counts, sent);
+    FIELD(counts, expired);
 }
 
 static void wholes(void) {
@@ -41,6 +45,7 @@ static void wholes(void) {
     FIELD(state, clock);
     FIELD(state, control);
     FIELD(state, last);
+    FIELD(state, counts);
     FIELD(state, live);
     SIZE(reply);
     FIELD(reply, packet);

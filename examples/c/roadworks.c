@@ -33,14 +33,15 @@ typedef struct host {
     presscurlew_state state; /* handed to each call, and replaced by what the call hands back */
     uint32_t now;            /* the radio's clock */
     uint32_t quiet_until;    /* no use to poll before: the gate said CLOSED */
-    uint32_t offered, sent, refused, air_time;
+    uint32_t offered, refused, air_time;
 } host;
 
 static uint32_t since_start_ms(const host *h) { return (h->now - START) / 1000; }
 
 static const char *refusal_name(uint64_t number) {
     static const char *const names[] = {"",           "BAD-PROFILE", "CLOCK-BACK",   "CLOCK-END",  "BAD-SAMPLE",
-                                        "BAD-PRIORITY", "BAD-ON-TIME", "BAD-LIFETIME", "QUEUE-FULL", "NO-STATE"};
+                                        "BAD-PRIORITY", "BAD-ON-TIME", "BAD-LIFETIME", "QUEUE-FULL", "NO-STATE",
+                                        "",             "SPENT"};
     return number < sizeof names / sizeof names[0] ? names[number] : "?";
 }
 
@@ -83,7 +84,6 @@ static void offer(host *h, int kind) {
 static void transmit(host *h, const presscurlew_packet *packet) {
     uint64_t waited = h->state.clock.time - packet->arrival;
 
-    h->sent++;
     h->air_time += packet->ontime;
     printf("%5" PRIu32 " ms  %s %" PRIu32 " sent, it waited %" PRIu64 " ms\n", since_start_ms(h),
            messages[packet->id & 3].name, packet->id >> 2, waited / 1000);
@@ -125,12 +125,21 @@ static void tick(host *h, unsigned t) {
     h->now += TICK_US;
 }
 
-static uint32_t waiting(const presscurlew_state *state) {
+static uint64_t waiting(const presscurlew_state *state) {
     uint64_t sum = 0;
 
     for (int priority = 0; priority < 4; priority++)
         sum += state->queues[priority].len;
-    return (uint32_t)sum;
+    return sum;
+}
+
+/* What the host has counted, and what the gate has: accepted is sent, expired and waiting together. */
+static void sum_up(const host *h) {
+    const presscurlew_counts *counts = &h->state.counts;
+
+    printf("%" PRIu32 " offered, %" PRIu32 " refused; %" PRIu32 " us on air\n", h->offered, h->refused, h->air_time);
+    printf("%" PRIu64 " accepted: %" PRIu64 " sent, %" PRIu64 " expired, %" PRIu64 " waiting\n", counts->accepted,
+           counts->sent, counts->expired, waiting(&h->state));
 }
 
 int main(void) {
@@ -141,9 +150,6 @@ int main(void) {
         return 1;
     for (unsigned t = 0; t < TICKS; t++)
         tick(&h, t);
-    uint32_t left = waiting(&h.state);
-    printf("%" PRIu32 " offered, %" PRIu32 " refused, %" PRIu32 " sent, %" PRIu32 " waiting, %" PRIu32 " expired; %" PRIu32
-           " us on air\n",
-           h.offered, h.refused, h.sent, left, h.offered - h.refused - h.sent - left, h.air_time);
+    sum_up(&h);
     return 0;
 }

@@ -3,14 +3,15 @@ ghost use mathlib.Core.Path.{_≡_};
 ghost use mathlib.Core.Bool.{true};
 ghost use Prim.Native.Nat.{_≤_};
 ghost use Rattle.rules.specs.Refusals.{firstOf};
-ghost use Rattle.model.specs.State.{allOf, controlRules, lastRules};
+ghost use Rattle.model.specs.State.{allOf, controlRules, lastRules, countRules};
 ghost use Rattle.model.specs.Effects.{stepped, sampled};
 ghost use Rattle.decide.specs.Decisions.{offerChecks, packetOf, leftAt};
-ghost use Rattle.decide.specs.Plans.{edited, EditFits, plan, pollPlan};
+ghost use Rattle.decide.specs.Plans.{edited, EditFits, plan, offerPlan, pollPlan};
 ghost use Rattle.decide.specs.declared.Edit.the-variants.{Keep};
 use model::Answer;
 use model::Clock;
 use model::Control;
+use model::Counts;
 use model::Last;
 use model::Packet;
 use queue::Queue;
@@ -42,6 +43,7 @@ pub struct Plan {
     pub clock: Clock,
     pub control: Control,
     pub last: Last,
+    pub counts: Counts,
     pub clears: usize,
     pub at: usize,
     pub edit: Edit,
@@ -97,6 +99,23 @@ pub fn is_last_sound(l: Last, profile: u32, now: u64) -> bool
         return false;
     }
     l.ontime == 0
+}
+
+// Whether so many that wait make the counts add up, accepted at most 10^15. Taken away and not summed, they can't wrap.
+pub fn are_counts_sound(c: Counts, waiting: u64) -> bool
+    ensures { λ r. ⌜ r ≡ allOf (countRules waiting c) ⌝ }
+{
+    if rules::MOST_OFFERS < c.accepted {
+        return false;
+    }
+    if c.accepted < c.sent {
+        return false;
+    }
+    let rest = c.accepted - c.sent;
+    if rest < c.expired {
+        return false;
+    }
+    rest - c.expired == waiting
 }
 
 // The clock moved to a stamp.
@@ -194,13 +213,21 @@ pub fn edit_queue(q: Queue, edit: Edit) -> Queue
 }
 
 // A plan that edits no queue.
-pub fn keeping(clock: Clock, control: Control, last: Last, clears: usize, answer: Answer) -> Plan
-    ensures { λ r. ⌜ r ≡ plan clock control last clears 0 Keep answer ⌝ }
+pub fn keeping(
+    clock: Clock,
+    control: Control,
+    last: Last,
+    counts: Counts,
+    clears: usize,
+    answer: Answer,
+) -> Plan
+    ensures { λ r. ⌜ r ≡ plan clock control last counts clears 0 Keep answer ⌝ }
 {
     Plan {
         clock,
         control,
         last,
+        counts,
         clears,
         at: 0,
         edit: Edit::Keep,
@@ -208,28 +235,52 @@ pub fn keeping(clock: Clock, control: Control, last: Last, clears: usize, answer
     }
 }
 
+// What an offer that nothing refuses is to do.
+pub fn plan_offer(clock: Clock, control: Control, last: Last, counts: Counts, o: Offer) -> Plan
+    requires { ⌜ counts .accepted ≤ 1000000000000000 ⌝ }
+    ensures { λ r. ⌜ r ≡ offerPlan clock control last counts o ⌝ }
+{
+    let p = packet_of(o, clock.time);
+    let mut counted = counts;
+    counted.accepted += 1;
+    Plan {
+        clock,
+        control,
+        last,
+        counts: counted,
+        clears: 4,
+        at: o.priority as usize,
+        edit: Edit::Push(p),
+        answer: Answer::Taken,
+    }
+}
+
 // What a poll is to do, by what it finds: IDLE, CLOSED or SENT.
-pub fn plan_poll(clock: Clock, control: Control, last: Last, choice: Choice) -> Plan
+pub fn plan_poll(clock: Clock, control: Control, last: Last, counts: Counts, choice: Choice) -> Plan
     requires { ⌜ allOf (controlRules control) ≡ true ⌝ }
     requires { ⌜ allOf (lastRules (control .profile) (clock .time) last) ≡ true ⌝ }
-    ensures { λ r. ⌜ r ≡ pollPlan clock control last choice ⌝ }
+    requires { ⌜ counts .sent ≤ 1000000000000000 ⌝ }
+    ensures { λ r. ⌜ r ≡ pollPlan clock control last counts choice ⌝ }
 {
     match choice {
-        Choice::Nothing => keeping(clock, control, last, 4, Answer::Idle),
+        Choice::Nothing => keeping(clock, control, last, counts, 4, Answer::Idle),
         Choice::Next(k, p) => {
             let left = left_of(control, last, clock.time);
             if left != 0 {
-                return keeping(clock, control, last, 4, Answer::Closed(left));
+                return keeping(clock, control, last, counts, 4, Answer::Closed(left));
             }
             let sent = Last {
                 at: clock.time,
                 ontime: p.ontime,
                 any: 1,
             };
+            let mut counted = counts;
+            counted.sent += 1;
             Plan {
                 clock,
                 control,
                 last: sent,
+                counts: counted,
                 clears: 4,
                 at: k,
                 edit: Edit::Pop,

@@ -2,18 +2,19 @@
 -- are packed is laid out.
 use Prim.Native.Nat.{ℕ, zero, suc, _+_, _≤_, _<_}
 use mathlib.Core.Path.{_≡_, refl, ap, sym, _∙_, subst⁻¹}
-use mathlib.Core.Bool.{Bool, true, false, _&&_, and-false}
+use mathlib.Core.Bool.{Bool, true, false, _&&_, and-false, and-true}
 use mathlib.Core.List.{List, [], _∷_}
 use native.Mathlib.Numerals.{add-one}
 use native.Mathlib.Omega.{arith}
 use lib.ListN.{length, drop, drop-of-length-le}
 use lib.Seq.{drop-cons}
 use borrow.Author.Tests.{leb-true, leb-false, le-leb, lt-leb, ltb-true, ltb-false, ne-eqb}
+use Rattle.rules.specs.Profiles.{room}
 use Rattle.rules.specs.Clock.{endOfTime, passesEnd}
-use Rattle.rules.proofs.Cases.{split}
-use Rattle.model.specs.State.{allOf, controlRules, lastRules, queueSound, sound}
+use Rattle.rules.proofs.Cases.{split, both}
+use Rattle.model.specs.State.{waitingIn, allOf, controlRules, lastRules, countRules, queueSound, sound}
 use Rattle.queue.specs.declared.Queue.{Queue}
-use Rattle.queue.specs.Layout.{items, Packed, tidy, soundQueue}
+use Rattle.queue.specs.Layout.{items, packed, Packed, tidy, soundQueue}
 use Rattle.gate.specs.declared.State.{State}
 use Rattle.gate.specs.Layout.{noQueue, queueAt, listsOf, queuesOf, LaidOut, allTidy, soundState}
 use Rattle.gate.specs.Requests.{soundQueues}
@@ -38,20 +39,29 @@ more-packed n qs f p k h =
     (λ e. f k (leb-false n k e))
 
 pub laid-out : (s : State) → length (s .queues) ≡ 4 → AllPacked 4 (s .queues) → LaidOut s
-laid-out s h f = λ i. record { queues = same i; clock = s .clock; control = s .control; last = s .last; live = s .live }
+laid-out s h f = λ i. record { queues = same i; clock = s .clock; control = s .control; last = s .last; counts = s .counts; live = s .live }
   where
     same : s .queues ≡ queuesOf (listsOf (s .queues))
     same =
         four-long (s .queues) h
         ∙ (λ i. f 0 (omega arith) i ∷ f 1 (omega arith) i ∷ f 2 (omega arith) i ∷ f 3 (omega arith) i ∷ [])
 
--- tests of two kinds, taken by kind or by queue
-regroup : (a b c d p q r s : Bool) → (a && (b && (c && (d && true)))) && (p && (q && (r && (s && true)))) ≡ (a && p) && ((b && q) && ((c && r) && ((d && s) && true)))
-regroup false b c d p q r s = refl
-regroup true false c d p q r s = sym (and-false p)
-regroup true true false d p q r s = simp and-false
-regroup true true true false p q r s = simp and-false
-regroup true true true true p q r s = refl
+-- a last test, taken out of a row
+last-out : (p q r s z : Bool) → p && (q && (r && (s && (z && true)))) ≡ (p && (q && (r && (s && true)))) && z
+last-out false q r s z = refl
+last-out true false r s z = refl
+last-out true true false s z = refl
+last-out true true true false z = refl
+last-out true true true true z = and-true z
+
+-- tests of two kinds, taken by kind or by queue; then one more
+regroup : (a b c d p q r s z : Bool)
+    → (a && (b && (c && (d && true)))) && (p && (q && (r && (s && (z && true))))) ≡ ((a && p) && ((b && q) && ((c && r) && ((d && s) && true)))) && z
+regroup false b c d p q r s z = refl
+regroup true false c d p q r s z = sym (ap (λ (u : Bool). u && z) (and-false p))
+regroup true true false d p q r s z = simp and-false
+regroup true true true false p q r s z = simp and-false
+regroup true true true true p q r s z = last-out p q r s z
 
 -- tests that hold do not count
 skipped : (t u v w x rest : Bool) → u ≡ true → v ≡ true → w ≡ true → x ≡ true → t && (u && (v && (w && (x && rest)))) ≡ t && rest
@@ -60,13 +70,13 @@ skipped t u v w x rest a b c d = rw (a, b, c, d)
 -- where the numbers are sound, the state is exactly if its queues are
 pub sound-by-queues : (s : State) → length (s .queues) ≡ 4 → eqb (s .live) 1 ≡ true → allOf (controlRules (s .control)) ≡ true
     → leb (s .clock .time) endOfTime ≡ true → allOf (lastRules (s .control .profile) (s .clock .time) (s .last)) ≡ true
-    → soundState s ≡ soundQueues (s .control .profile) (s .clock .time) 0 (s .queues)
+    → soundState s ≡ (soundQueues (s .control .profile) (s .clock .time) 0 (s .queues) && allOf (countRules (waitingIn (listsOf (s .queues))) (s .counts)))
 unfolding soundState sound soundQueues soundQueue
 sound-by-queues s h a b c d =
     skipped (allTidy qs) (eqb (s .live) 1) (allOf (controlRules (s .control))) (leb now endOfTime) (allOf (lastRules profile now (s .last)))
-    (judge 0 && (judge 1 && (judge 2 && (judge 3 && true)))) a b c d
-    ∙ regroup (tidy (queueAt qs 0)) (tidy (queueAt qs 1)) (tidy (queueAt qs 2)) (tidy (queueAt qs 3)) (judge 0) (judge 1) (judge 2) (judge 3)
-    ∙ ap (soundQueues profile now 0) (sym (four-long qs h))
+    (judge 0 && (judge 1 && (judge 2 && (judge 3 && (counted && true))))) a b c d
+    ∙ regroup (tidy (queueAt qs 0)) (tidy (queueAt qs 1)) (tidy (queueAt qs 2)) (tidy (queueAt qs 3)) (judge 0) (judge 1) (judge 2) (judge 3) counted
+    ∙ ap (λ (l : List Queue). soundQueues profile now 0 l && counted) (sym (four-long qs h))
   where
     qs : List Queue
     qs = s .queues
@@ -76,6 +86,9 @@ sound-by-queues s h a b c d =
 
     now : ℕ
     now = s .clock .time
+
+    counted : Bool
+    counted = allOf (countRules (waitingIn (listsOf qs)) (s .counts))
 
     judge : ℕ → Bool
     judge k = queueSound profile now k (items (queueAt qs k))
@@ -123,3 +136,32 @@ module _ (s : State) where
 pub in-time : (time : ℕ) → passesEnd time ≡ false → leb time endOfTime ≡ true
 unfolding passesEnd
 in-time time h = le-leb time endOfTime (ltb-false endOfTime time h)
+
+-- how many wait in the first n queues
+unfoldable pub waitingTo : ℕ → List Queue → ℕ
+waitingTo zero qs = 0
+waitingTo (suc n) [] = 0
+waitingTo (suc n) (q ∷ qs) = length (items q) + waitingTo n qs
+
+pub waiting-more : (n : ℕ) (qs : List Queue) → n < length qs → waitingTo (n + 1) qs ≡ waitingTo n qs + length (items (queueAt qs n))
+unfolding waitingTo
+waiting-more n [] h = absurd (omega arith)
+waiting-more zero (q ∷ qs) h = omega arith
+waiting-more (suc n) (q ∷ qs) h = rw (add-one (suc n)) (omega (arith, rw (add-one n) at (waiting-more n qs (omega arith))))
+
+pub waiting-none : (qs : List Queue) → waitingTo 0 qs ≡ 0
+unfolding waitingTo
+waiting-none qs = refl
+
+pub waiting-all : (qs : List Queue) → length qs ≡ 4 → waitingTo 4 qs ≡ waitingIn (listsOf qs)
+unfolding waitingTo
+waiting-all qs h = ap (waitingTo 4) (four-long qs h) ∙ omega arith
+
+-- what a queue says of its length
+pub packed-count : (q : Queue) → Packed q → q .len ≡ length (items q)
+unfolding packed
+packed-count q p = ap (λ (x : Queue). x .len) p
+
+pub sound-len : (profile now k : ℕ) (q : Queue) → soundQueue profile now k q ≡ true → q .len ≤ room
+unfolding soundQueue tidy
+sound-len profile now k q e = leb-true (q .len) room (both (leb (q .len) room) _ (both (tidy q) _ e .0) .0)

@@ -20,6 +20,7 @@ use Rattle.model.proofs.Window.{window}
 use Rattle.model.proofs.Columns.{choiceBy}
 use Rattle.model.proofs.Turns.{turn-waiting}
 use Rattle.model.proofs.Refusals.{on-call}
+use Rattle.model.proofs.Sound.{test-view}
 use Rattle.model.proofs.Gaps.{quiet-opens}
 use Rattle.model.proofs.Invariant.{Tied, cleared-tied, chosen-lowest}
 use Rattle.model.proofs.DeliveryLines.{all-more}
@@ -75,6 +76,8 @@ claims profile v j r =
       time = r .tied .time;
       queues = r .tied .queues;
       admissions = r .tied .newest;
+      counts = r .tied .counted;
+      adds-up = test-view v (r .sounds) .counts .sum;
       ceiling = λ from w. window from w (j .admissions) (r .tied .spaced);
       floor = λ stamp accepted some q. sends v j (r .tied) stamp (kept v (r .sounds)) some (rw (r .same) q) accepted;
       sent = λ stamp. carries v j (r .tied) stamp;

@@ -1,5 +1,5 @@
 -- What ties a view to the journal all along a run; each part of a call keeps it, and so does every call.
-use Prim.Native.Nat.{ℕ}
+use Prim.Native.Nat.{ℕ, suc, _+_}
 use mathlib.Core.Path.{_≡_, refl, ap, ap₂, sym, _∙_, subst}
 use mathlib.Core.Bool.{false}
 use mathlib.Core.List.{List, [], _∷_, map}
@@ -10,19 +10,24 @@ use Rattle.rules.specs.Clock.{stepOf}
 use Rattle.rules.specs.Refusals.{NoneHolds}
 use Rattle.rules.proofs.Cases.{on-cond}
 use Rattle.model.specs.declared.Packet.{Packet}
-use Rattle.model.specs.State.{each, column, change, View, fresh, Outcome, Call, words, count, offer, poll}
-use Rattle.model.specs.Effects.{stepped, sampledBy, keep, cleared, atBack, joined, choice, closed, admitted, polled, effect}
+use Rattle.model.specs.declared.Counts.{Counts}
+use Rattle.model.specs.State.{each, column, change, View, fresh, Outcome, Call, words, count, offer, poll, countsFrom, waitingIn}
+use Rattle.model.specs.Effects.{stepped, sampledBy, keep, kept, expiredBy, cleared, atBack, joined, choice, closed, admitted, polled, effect}
 use Rattle.model.specs.Gate.{checks, call}
 use Rattle.model.specs.Journal.{Line, Journal, opened, turned, allStruck, written, lowest, top, sentOf, fed, atPoll}
 use Rattle.model.specs.Claims.{All, Newest}
 use Rattle.model.proofs.Fours.{Fours}
 use Rattle.model.proofs.Window.{SpacedSoFar}
-use Rattle.model.proofs.Columns.{packetOf, same-left, same-offer, choiceBy, same-choice}
+use Rattle.model.proofs.Columns.{packetOf, leftOf, same-left, same-offer, choiceBy, same-choice}
+use Rattle.model.proofs.Counting.{waiting-lines, waiting-left}
 use Rattle.model.proofs.Turns.{DepartsInTurn, Turn, turn-picked, turn-written, Own, LeavesInTurn, leaves-in-turn, expired-in-turn}
 use Rattle.model.proofs.Refusals.{on-call}
 use Rattle.model.proofs.SoundQueues.{Queued}
 use Rattle.model.proofs.Sound.{SoundView, cleared-sound, chosen-queued, passed-time}
 use Rattle.model.proofs.Gaps.{open-spaced}
+
+add-one : (n : ℕ) → n + 1 ≡ suc n
+add-one n = omega arith
 
 pub record Tied (v : View) (j : Journal) : Type 0 where
   pub time : v .clock .time ≡ j .time
@@ -32,10 +37,11 @@ pub record Tied (v : View) (j : Journal) : Type 0 where
   pub spaced : SpacedSoFar (j .admissions)
   pub turn : Turn (length (j .admissions)) (j .columns .c0)
   pub departed : All DepartsInTurn (j .departures)
+  pub counted : v .counts ≡ countsFrom (j .offers) (length (j .admissions)) (j .expiries)
 
 pub fresh-tied : (profile stamp : ℕ) → Tied (fresh profile stamp) (opened stamp)
 fresh-tied profile stamp =
-    record { time = refl; stamp = refl; queues = refl; newest = refl; spaced = tt; turn = tt; departed = tt }
+    record { time = refl; stamp = refl; queues = refl; newest = refl; spaced = tt; turn = tt; departed = tt; counted = refl }
 
 -- the clock: the gate's step is the journal's
 step-turned : (v : View) (j : Journal) (stamp : ℕ) → Tied v j → stepped (v .clock) stamp .time ≡ turned j stamp .time
@@ -52,20 +58,39 @@ sampled-tied v j stamp busy i =
       spaced = i .spaced;
       turn = i .turn;
       departed = i .departed;
+      counted = i .counted;
     }
 
 -- expiry
+kept-left : (v : View) (j : Journal) (stamp : ℕ) → Tied v j
+    → kept v stamp ≡ each (map packetOf) (each (leftOf (turned j stamp .time)) (j .columns))
+kept-left v j stamp i =
+    ap₂ (λ now q. each (keep now) q) (step-turned v j stamp i) (i .queues) ∙ same-left (turned j stamp .time) (j .columns)
+
+struck-counted : (v : View) (j : Journal) (stamp : ℕ) → Tied v j → expiredBy v stamp ≡ length (allStruck (turned j stamp))
+struck-counted v j stamp i =
+    let now = turned j stamp .time in
+    omega (
+      arith,
+      ap waitingIn (i .queues) ∙ waiting-lines (j .columns),
+      ap waitingIn (kept-left v j stamp i) ∙ waiting-lines (each (leftOf now) (j .columns)),
+      waiting-left now (j .columns),
+    )
+
 pub cleared-tied : (v : View) (j : Journal) (stamp : ℕ) → Tied v j → Tied (cleared v stamp) (atPoll j stamp)
 cleared-tied v j stamp i =
     let e = step-turned v j stamp i in
     record {
       time = e;
       stamp = refl;
-      queues = ap₂ (λ now q. each (keep now) q) e (i .queues) ∙ same-left (turned j stamp .time) (j .columns);
+      queues = kept-left v j stamp i;
       newest = i .newest;
       spaced = i .spaced;
       turn = turn-picked _ (length (j .admissions)) (j .columns .c0) (i .turn);
       departed = expired-in-turn (turned j stamp .time) (allStruck (turned j stamp)) (j .departures) (i .departed);
+      counted =
+          ap (λ (c : Counts). countsFrom (c .accepted) (c .sent) (c .expired + expiredBy v stamp)) (i .counted)
+          ∙ ap (λ (n : ℕ). countsFrom (j .offers) (length (j .admissions)) (j .expiries + n)) (struck-counted v j stamp i);
     }
 
 -- an offer
@@ -79,6 +104,7 @@ joined-tied v j p i =
       spaced = i .spaced;
       turn = turn-written (p .priority) (length (j .admissions)) p (j .columns) (i .turn);
       departed = i .departed;
+      counted = ap (λ (c : Counts). countsFrom (c .accepted + 1) (c .sent) (c .expired)) (i .counted);
     }
 
 -- a poll: what the gate chooses is what the journal has on top
@@ -117,6 +143,9 @@ module _ (v : View) (j : Journal) (i : Tied v j) (h : SoundView v) (k : Keeps (v
         );
         turn = turn .1;
         departed = (turn .0, i .departed);
+        counted =
+            ap (λ (c : Counts). countsFrom (c .accepted) (c .sent + 1) (c .expired)) (i .counted)
+            ∙ ap (λ (n : ℕ). countsFrom (j .offers) n (j .expiries)) (add-one (length (j .admissions)));
       })
 
 -- every call

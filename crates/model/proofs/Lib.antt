@@ -9,6 +9,7 @@ pub mod Turns
 pub mod Refusals
 pub mod Profile
 pub mod SoundQueues
+pub mod Counting
 pub mod Sound
 pub mod Gaps
 pub mod Invariant

@@ -1,22 +1,24 @@
 -- A view is sound exactly if these facts hold of it; the clock and expiry, as far as the end of time, keep them.
-use Prim.Native.Nat.{ℕ, _≤_}
+use Prim.Native.Nat.{ℕ, _+_, _≤_}
 use mathlib.Core.Path.{_≡_}
 use mathlib.Core.Bool.{true, cond, _&&_}
 use mathlib.Core.List.{List}
 use native.Mathlib.Omega.{arith}
 use lib.Dec.{eqb}
-use borrow.Author.Tests.{le-leb}
-use Rattle.rules.specs.Profiles.{fullLoad, topLevel, isProfile, ontimeAllowed, dutyAllowed}
+use borrow.Author.Tests.{le-leb, eq-eqb}
+use Rattle.rules.specs.Profiles.{fullLoad, topLevel, isProfile, ontimeAllowed, dutyAllowed, mostOffers}
 use Rattle.rules.specs.Clock.{passesEnd, endOfTime}
 use Rattle.rules.specs.Refusals.{NoneHolds}
 use Rattle.model.specs.declared.Packet.{Packet}
 use Rattle.model.specs.declared.Control.{Control}
 use Rattle.model.specs.declared.Last.{Last}
-use Rattle.model.specs.State.{View, viewFrom, Call, stampOf, allOf, controlRules, lastRules, viewRules, sound}
+use Rattle.model.specs.declared.Counts.{Counts}
+use Rattle.model.specs.State.{waitingIn, View, viewFrom, Call, stampOf, allOf, controlRules, lastRules, countRules, viewRules, sound}
 use Rattle.model.specs.Effects.{stepped, keep, cleared, choice}
 use Rattle.model.specs.Gate.{checks}
 use Rattle.model.proofs.Tests.{tested, all-true}
 use Rattle.model.proofs.Fours.{Fours, fours-each}
+use Rattle.model.proofs.Counting.{waiting-kept}
 use Rattle.model.proofs.SoundQueues.{Queued, test-queued, queued-test, queued-later, queued-keep, queued-tail, OfChoice, of-choice}
 
 pub record SoundControl (k : Control) : Type 0 where
@@ -33,12 +35,17 @@ pub record SoundLast (profile now : ℕ) (l : Last) : Type 0 where
   pub past : l .at ≤ now
   pub fields : cond (eqb (l .any) 1) (ontimeAllowed profile (l .ontime)) (eqb (l .at) 0 && eqb (l .ontime) 0) ≡ true
 
+pub record SoundCounts (waiting : ℕ) (c : Counts) : Type 0 where
+  pub sum : c .accepted ≡ c .sent + c .expired + waiting
+  pub most : c .accepted ≤ mostOffers
+
 pub record SoundView (v : View) : Type 0 where
   pub live : eqb (v .live) 1 ≡ true
   pub control : SoundControl (v .control)
   pub time : v .clock .time ≤ endOfTime
   pub last : SoundLast (v .control .profile) (v .clock .time) (v .last)
   pub queues : Fours (Queued (v .control .profile) (v .clock .time)) (v .queues)
+  pub counts : SoundCounts (waitingIn (v .queues)) (v .counts)
 
 -- the tests say these facts, and no more
 test-control : (k : Control) → allOf (controlRules k) ≡ true → SoundControl k
@@ -66,6 +73,14 @@ test-last profile now l e =
 last-test : (profile now : ℕ) (l : Last) → SoundLast profile now l → allOf (lastRules profile now l) ≡ true
 last-test profile now l h = rw (le-leb _ _ (h .flag), le-leb _ _ (h .past), h .fields)
 
+test-counts : (waiting : ℕ) (c : Counts) → allOf (countRules waiting c) ≡ true → SoundCounts waiting c
+test-counts waiting c e =
+    let h = all-true (countRules waiting c) e in
+    record { sum = omega (tested, h .0); most = omega (tested, h .1 .0) }
+
+counts-test : (waiting : ℕ) (c : Counts) → SoundCounts waiting c → allOf (countRules waiting c) ≡ true
+counts-test waiting c h = rw (eq-eqb _ _ (h .sum), le-leb _ _ (h .most))
+
 pub test-view : (v : View) → sound v ≡ true → SoundView v
 unfolding sound
 test-view v e =
@@ -81,6 +96,7 @@ test-view v e =
         test-queued (v .control .profile) (v .clock .time) 2 (v .queues .c2) (h .1 .1 .1 .1 .1 .1 .0),
         test-queued (v .control .profile) (v .clock .time) 3 (v .queues .c3) (h .1 .1 .1 .1 .1 .1 .1 .0),
       );
+      counts = test-counts (waitingIn (v .queues)) (v .counts) (h .1 .1 .1 .1 .1 .1 .1 .1 .0);
     }
 
 pub view-test : (v : View) → SoundView v → sound v ≡ true
@@ -95,6 +111,7 @@ view-test v h =
       queued-test (v .control .profile) (v .clock .time) 1 (v .queues .c1) (h .queues .1),
       queued-test (v .control .profile) (v .clock .time) 2 (v .queues .c2) (h .queues .2),
       queued-test (v .control .profile) (v .clock .time) 3 (v .queues .c3) (h .queues .3),
+      counts-test (waitingIn (v .queues)) (v .counts) (h .counts),
     )
 
 -- the on-time of the last admission
@@ -104,7 +121,7 @@ last-allowed profile now l h some = rw some at (h .fields)
 
 -- the clock
 abbrev pub moved : View → ℕ → View
-moved v stamp = viewFrom (v .live) (stepped (v .clock) stamp) (v .control) (v .last) (v .queues)
+moved v stamp = viewFrom (v .live) (stepped (v .clock) stamp) (v .control) (v .last) (v .counts) (v .queues)
 
 pub moved-sound : (v : View) (stamp : ℕ) → stepped (v .clock) stamp .time ≤ endOfTime → SoundView v → SoundView (moved v stamp)
 moved-sound v stamp k h =
@@ -118,6 +135,7 @@ moved-sound v stamp k h =
           (λ (ps : List Packet). ps)
           (λ n ps. queued-later (v .control .profile) (v .clock .time) (stepped (v .clock) stamp .time) n ps (omega arith))
           (v .queues) (h .queues);
+      counts = h .counts;
     }
 
 -- expiry
@@ -133,6 +151,7 @@ cleared-sound v stamp k h =
       queues =
           fours-each (Queued (v .control .profile) at) (Queued (v .control .profile) at) (keep at)
           (λ n ps. queued-keep (v .control .profile) at n at ps) (v .queues) (m .queues);
+      counts = record { sum = omega (arith, h .counts .sum, waiting-kept at (v .queues)); most = h .counts .most };
     }
 
 -- the packet that a poll chooses

@@ -4,7 +4,7 @@ use mathlib.Core.{Path._≡_, Bool.true, Bool.false, List.List, List.[], List._�
 use lib.{Dec.eqb, ListN.length}
 use Rattle.rules.specs.Limits.{spare, quiet}
 use Rattle.model.specs.declared.{Packet.Packet, Last.Last, Answer.Answer, Answer.the-variants.Ready, Answer.the-variants.Sent}
-use Rattle.model.specs.{State.each, State.View, State.Call, State.poll, State.isRefused, State.sound, Gate.make, Gate.call}
+use Rattle.model.specs.{State.each, State.waitingIn, State.View, State.countsFrom, State.Call, State.poll, State.isRefused, State.sound, Gate.make, Gate.call}
 use Rattle.model.specs.Journal.{Line, Admission, Way, expiry, admission, Departure, Journal, opened, turned, atPoll, top, journalOf, airTime}
 
 unfoldable pub viewAfter : View → List Call → View
@@ -32,6 +32,9 @@ pub record Claims (profile : ℕ) (v : View) (j : Journal) : Type 0 where  -- at
   pub time : v .clock .time ≡ j .time  -- the run's time, queues and admissions are the journal's
   pub queues : v .queues ≡ each (map (λ (l : Line). l .packet)) (j .columns)
   pub admissions : Newest (v .last) (j .admissions)
+  -- W-201: each count is the number of such events in the run, and "accepted equals sent plus expired plus the packets waiting"
+  pub counts : v .counts ≡ countsFrom (j .offers) (length (j .admissions)) (j .expiries)
+  pub adds-up : v .counts .accepted ≡ v .counts .sent + v .counts .expired + waitingIn (v .queues)
   -- the ceiling: in any window of w µs, 100 × air time admitted ≤ 3 w + 400,000
   pub ceiling : (from w : ℕ) → 100 * airTime from w (j .admissions) ≤ 3 * w + spare
   -- the floor: an accepted poll that finds an unexpired packet, the quiet time or more after every earlier admission, sends

@@ -5,7 +5,7 @@ use lib.Dec.{ltb, eqb}
 use Rattle.rules.specs.{Profiles.profile3, Profiles.isReactive, Profiles.reactiveOf, Clock.stepOf, Samples.probes, Samples.busyOf, Samples.loadOf}
 use Rattle.rules.specs.{Levels.wantedBy, Levels.towards, Duty.smoothedOf, Duty.dutyOf, Wait.waitOf}
 use Rattle.model.specs.declared.{Packet.Packet, Clock.Clock, Control.Control, Answer.the-variants.Taken, Answer.the-variants.Sent, Answer.the-variants.Idle, Answer.the-variants.Closed}
-use Rattle.model.specs.State.{Four, four, each, change, View, viewFrom, controlFrom, Call, words, count, offer, poll, Outcome, gives, packetFrom}
+use Rattle.model.specs.State.{Four, four, each, change, waitingIn, View, viewFrom, countsFrom, controlFrom, Call, words, count, offer, poll, Outcome, gives, packetFrom}
 
 abbrev pub stepped : Clock → ℕ → Clock  -- "Running time grows by each step"
 stepped c stamp = record { time = c .time + stepOf stamp (c .stamp); stamp = stamp }
@@ -25,7 +25,7 @@ sampled k load =
     (cond (eqb (k .pairing) 1) (updated k (smoothedOf (k .smoothed) (k .kept) load)) (keptSample k load))
 
 abbrev pub sampledBy : View → ℕ → ℕ → View  -- "A sample expires nothing."
-sampledBy v stamp busy = viewFrom (v .live) (stepped (v .clock) stamp) (sampled (v .control) (loadOf busy)) (v .last) (v .queues)
+sampledBy v stamp busy = viewFrom (v .live) (stepped (v .clock) stamp) (sampled (v .control) (loadOf busy)) (v .last) (v .counts) (v .queues)
 
 abbrev pub unexpired : ℕ → Packet → Bool  -- "expired when running time minus arrival is at least its lifetime": not so
 unexpired now p = ltb (now - p .arrival) (p .lifetime)
@@ -34,15 +34,25 @@ unfoldable pub keep : ℕ → List Packet → List Packet  -- those that are not
 keep now [] = []
 keep now (p ∷ ps) = cond (unexpired now p) (p ∷ keep now ps) (keep now ps)
 
-abbrev pub cleared : View → ℕ → View  -- "first moves the clock, then removes every expired packet"
+abbrev pub kept : View → ℕ → Four Packet
+kept v stamp = each (keep (stepped (v .clock) stamp .time)) (v .queues)
+
+abbrev pub expiredBy : View → ℕ → ℕ  -- how many are not kept
+expiredBy v stamp = waitingIn (v .queues) - waitingIn (kept v stamp)
+
+-- "first moves the clock, then removes every expired packet"; W-201: "an expiry counts at its removal"
+abbrev pub cleared : View → ℕ → View
 cleared v stamp =
-    viewFrom (v .live) (stepped (v .clock) stamp) (v .control) (v .last) (each (keep (stepped (v .clock) stamp .time)) (v .queues))
+    viewFrom (v .live) (stepped (v .clock) stamp) (v .control) (v .last)
+    (countsFrom (v .counts .accepted) (v .counts .sent) (v .counts .expired + expiredBy v stamp)) (kept v stamp)
 
 abbrev pub atBack : Packet → List Packet → List Packet
 atBack p ps = ps ++ (p ∷ [])
 
 abbrev pub joined : View → Packet → View  -- "joins the back of its priority's queue"
-joined v p = viewFrom (v .live) (v .clock) (v .control) (v .last) (change (p .priority) (atBack p) (v .queues))
+joined v p =
+    viewFrom (v .live) (v .clock) (v .control) (v .last)
+    (countsFrom (v .counts .accepted + 1) (v .counts .sent) (v .counts .expired)) (change (p .priority) (atBack p) (v .queues))
 
 pub data Choice : Type 0 where  -- a packet, with the queues that it leaves
   nothing : Choice
@@ -68,7 +78,9 @@ unfoldable pub closed : View → Bool  -- "if something was admitted and less th
 closed v = eqb (v .last .any) 1 && ltb (sinceLast v) (waitNow v)
 
 abbrev pub admitted : View → Packet → Four Packet → View  -- "leaves its queue and is recorded as the last admission"
-admitted v p left = viewFrom (v .live) (v .clock) (v .control) (record { at = v .clock .time; ontime = p .ontime; any = 1 }) left
+admitted v p left =
+    viewFrom (v .live) (v .clock) (v .control) (record { at = v .clock .time; ontime = p .ontime; any = 1 })
+    (countsFrom (v .counts .accepted) (v .counts .sent + 1) (v .counts .expired)) left
 
 abbrev pub polled : View → Choice → Outcome  -- "A poll answers": IDLE, else CLOSED with the µs left, else SENT
 polled v nothing = gives v Idle

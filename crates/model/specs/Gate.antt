@@ -2,12 +2,12 @@
 use Prim.Native.Nat.{ℕ}
 use mathlib.Core.{Path._≡_, Bool.true, Bool.not, Bool.cond, List.List, List.[], List._∷_}
 use lib.{Dec.ltb, Dec.leb, Dec.eqb, ListN.length}
-use Rattle.rules.specs.{Profiles.isProfile, Profiles.ontimeAllowed, Profiles.lifetimeAllowed, Profiles.room, Clock.stepOf, Clock.goesBack, Clock.passesEnd, Samples.goodWords, Samples.badCount}
+use Rattle.rules.specs.{Profiles.isProfile, Profiles.ontimeAllowed, Profiles.lifetimeAllowed, Profiles.room, Profiles.mostOffers, Clock.stepOf, Clock.goesBack, Clock.passesEnd, Samples.goodWords, Samples.badCount}
 use Rattle.rules.specs.Refusals.{Check, check, firstOf, FirstHolds}
 use Rattle.model.specs.State.{column, View, fresh, notLive, Call, words, count, offer, poll, stampOf, Outcome, gives, isRefused}
 use Rattle.model.specs.{declared.Answer.the-variants.Ready, declared.Answer.the-variants.Refused, State.sound, Effects.stepped, Effects.cleared, Effects.effect}
 
-abbrev pub ownChecks : View → Call → List Check  -- BAD-SAMPLE; BAD-PRIORITY, BAD-ON-TIME, BAD-LIFETIME, QUEUE-FULL ("at the new time")
+abbrev pub ownChecks : View → Call → List Check  -- BAD-SAMPLE; BAD-PRIORITY, BAD-ON-TIME, BAD-LIFETIME, QUEUE-FULL ("at the new time"), SPENT
 ownChecks v (words stamp ws) = check 4 (not (goodWords ws)) ∷ []
 ownChecks v (count stamp busy) = check 4 (badCount busy) ∷ []
 ownChecks v (offer stamp id priority ontime lifetime) =
@@ -15,10 +15,11 @@ ownChecks v (offer stamp id priority ontime lifetime) =
     ∷ check 6 (not (ontimeAllowed (v .control .profile) ontime))
     ∷ check 7 (not (lifetimeAllowed lifetime))
     ∷ check 8 (leb room (length (column priority (cleared v stamp .queues))))
+    ∷ check 11 (leb mostOffers (v .counts .accepted))
     ∷ []
 ownChecks v (poll stamp) = []
 
-unfoldable pub checks : View → Call → List Check  -- "Checks run 9, 2, 3, then 4, 5, 6, 7, 8 as they apply": NO-STATE, CLOCK-BACK, CLOCK-END
+unfoldable pub checks : View → Call → List Check  -- "Checks run 9, 2, 3, then 4, 5, 6, 7, 8 as they apply", 11 after 8: NO-STATE, CLOCK-BACK, CLOCK-END
 checks v c =
     check 9 (not (sound v))
     ∷ check 2 (goesBack (stepOf (stampOf c) (v .clock .stamp)))

@@ -27,19 +27,22 @@ pub record Departure : Type 0 where
 pub record Journal : Type 0 where  -- "a time, a stamp and four columns of packets"; admissions and departures the newest first
   pub time : ℕ
   pub stamp : ℕ
+  pub offers : ℕ  -- W-201: the offers accepted and the packets expired so far
+  pub expiries : ℕ
   pub columns : Four Line
   pub admissions : List Admission
   pub departures : List Departure
 
-abbrev page : ℕ → ℕ → Four Line → List Admission → List Departure → Journal
-page time stamp columns admissions departures =
-    record { time = time; stamp = stamp; columns = columns; admissions = admissions; departures = departures }
+abbrev page : (time stamp offers expiries : ℕ) → Four Line → List Admission → List Departure → Journal
+page time stamp offers expiries columns admissions departures =
+    record { time = time; stamp = stamp; offers = offers; expiries = expiries; columns = columns; admissions = admissions; departures = departures }
 
 abbrev pub opened : ℕ → Journal  -- "At first: time 0, make's stamp, columns empty."
-opened stamp = page 0 stamp (four [] [] [] []) [] []
+opened stamp = page 0 stamp 0 0 (four [] [] [] []) [] []
 
 abbrev pub turned : Journal → ℕ → Journal  -- "the step from the book's stamp to the call's is added to the time, and the call's stamp kept"
-turned j stamp = page (j .time + (4294967296 + stamp - j .stamp) % 4294967296) stamp (j .columns) (j .admissions) (j .departures)
+turned j stamp =
+    page (j .time + (4294967296 + stamp - j .stamp) % 4294967296) stamp (j .offers) (j .expiries) (j .columns) (j .admissions) (j .departures)
 
 abbrev pub outlived : ℕ → Line → Bool  -- "whose time since its offer is at least its lifetime"
 outlived now l = leb (l .packet .lifetime) (now - l .packet .arrival)
@@ -53,7 +56,8 @@ allStruck j = picked (outlived (j .time)) (j .columns .c0 ++ j .columns .c1 ++ j
 
 abbrev pub struck : Journal → Journal  -- "strikes each packet whose time since its offer is at least its lifetime; it leaves by expiry"
 struck j =
-    page (j .time) (j .stamp) (each (picked (λ (l : Line). not (outlived (j .time) l))) (j .columns)) (j .admissions)
+    page (j .time) (j .stamp) (j .offers) (j .expiries + length (allStruck j))
+    (each (picked (λ (l : Line). not (outlived (j .time) l))) (j .columns)) (j .admissions)
     (map (λ (l : Line). record { line = l; way = expiry; at = j .time }) (allStruck j) ++ j .departures)
 
 abbrev pub atFoot : Line → List Line → List Line
@@ -65,7 +69,7 @@ lineOf j p = record { packet = p; above = length (column (p .priority) (j .colum
 
 abbrev pub written : Journal → Packet → Journal  -- "writes its packet .. at the foot of its priority's column"
 written j p =
-    page (j .time) (j .stamp) (change (p .priority) (atFoot (lineOf j p)) (j .columns)) (j .admissions) (j .departures)
+    page (j .time) (j .stamp) (j .offers + 1) (j .expiries) (change (p .priority) (atFoot (lineOf j p)) (j .columns)) (j .admissions) (j .departures)
 
 abbrev pub after : {A : Type 0} → List Line → A → A → A
 after [] here next = next
@@ -80,7 +84,7 @@ top q = take 1 (column (lowest q) q)
 abbrev pub sentOf : Journal → List Line → Journal  -- "an admission at the book's time: it strikes the top packet .."
 sentOf j [] = j
 sentOf j (l ∷ ls) =
-    page (j .time) (j .stamp) (change (lowest (j .columns)) (drop 1) (j .columns))
+    page (j .time) (j .stamp) (j .offers) (j .expiries) (change (lowest (j .columns)) (drop 1) (j .columns))
     (record { at = j .time; ontime = l .packet .ontime } ∷ j .admissions)
     (record { line = l; way = admission (suc (length (j .admissions))); at = j .time } ∷ j .departures)
 

@@ -1,9 +1,9 @@
 -- The gate's state on lists, when it is sound, the calls and the answers (document 01, "State and calls").
-use Prim.Native.Nat.{ℕ, zero, suc}
+use Prim.Native.Nat.{ℕ, zero, suc, _+_}
 use mathlib.Core.{Bool.Bool, Bool.true, Bool.cond, Bool._&&_, List.List, List.[], List._∷_}
 use lib.{Dec.leb, Dec.eqb, ListN.length}
-use Rattle.rules.specs.{Clock.endOfTime, Profiles.profile3, Profiles.fullLoad, Profiles.topLevel, Profiles.isProfile, Profiles.dutyAllowed, Profiles.ontimeAllowed, Profiles.lifetimeAllowed, Profiles.room}
-use Rattle.model.specs.declared.{Packet.Packet, Clock.Clock, Control.Control, Last.Last, Reply.Reply, Answer.Answer}
+use Rattle.rules.specs.{Clock.endOfTime, Profiles.profile3, Profiles.fullLoad, Profiles.topLevel, Profiles.isProfile, Profiles.dutyAllowed, Profiles.ontimeAllowed, Profiles.lifetimeAllowed, Profiles.room, Profiles.mostOffers}
+use Rattle.model.specs.declared.{Packet.Packet, Clock.Clock, Control.Control, Last.Last, Counts.Counts, Reply.Reply, Answer.Answer}
 use Rattle.model.specs.declared.Answer.the-variants.{Ready, Taken, Sent, Idle, Closed, Refused}
 
 -- four lists, one a priority: the gate's queues, and the columns of the journal; nothing here looks into an element
@@ -31,18 +31,27 @@ change (suc zero) f q = four (q .c0) (f (q .c1)) (q .c2) (q .c3)
 change (suc (suc zero)) f q = four (q .c0) (q .c1) (f (q .c2)) (q .c3)
 change (suc (suc (suc n))) f q = four (q .c0) (q .c1) (q .c2) (f (q .c3))
 
+abbrev pub waitingIn : {A : Type 0} → Four A → ℕ  -- how many there are
+waitingIn q = length (q .c0) + length (q .c1) + length (q .c2) + length (q .c3)
+
 pub record View : Type 0 where  -- the state; live is 1 or 0, as every yes-or-no of it
   pub live : ℕ
   pub clock : Clock
   pub control : Control
   pub last : Last
+  pub counts : Counts
   pub queues : Four Packet
 
-abbrev pub viewFrom : ℕ → Clock → Control → Last → Four Packet → View
-viewFrom live clock control last queues = record { live = live; clock = clock; control = control; last = last; queues = queues }
+abbrev pub viewFrom : ℕ → Clock → Control → Last → Counts → Four Packet → View
+viewFrom live clock control last counts queues =
+    record { live = live; clock = clock; control = control; last = last; counts = counts; queues = queues }
 
-abbrev pub blankView : ℕ → Clock → Control → View  -- with nothing admitted and nothing waiting
-blankView live clock control = viewFrom live clock control (record { at = 0; ontime = 0; any = 0 }) (four [] [] [] [])
+abbrev pub countsFrom : (accepted sent expired : ℕ) → Counts
+countsFrom accepted sent expired = record { accepted = accepted; sent = sent; expired = expired }
+
+abbrev pub blankView : ℕ → Clock → Control → View  -- with nothing admitted, counted or waiting
+blankView live clock control =
+    viewFrom live clock control (record { at = 0; ontime = 0; any = 0 }) (countsFrom 0 0 0) (four [] [] [] [])
 
 abbrev pub controlFrom : (profile level duty smoothed kept pairing : ℕ) → Control
 controlFrom profile level duty smoothed kept pairing =
@@ -84,6 +93,9 @@ inOrder profile now priority since (p ∷ ps) =
 unfoldable pub queueSound : ℕ → ℕ → ℕ → List Packet → Bool  -- "every queue length at most 5", and its packets
 queueSound profile now priority ps = leb (length ps) room && inOrder profile now priority 0 ps
 
+abbrev pub countRules : ℕ → Counts → List Bool  -- W-201: "A state whose counts don't add up, or with accepted above 10^15, isn't sound."
+countRules waiting c = eqb (c .accepted) (c .sent + c .expired + waiting) ∷ leb (c .accepted) mostOffers ∷ []
+
 abbrev pub viewRules : View → List Bool
 viewRules v =
     eqb (v .live) 1 ∷ allOf (controlRules (v .control)) ∷ leb (v .clock .time) endOfTime
@@ -91,7 +103,8 @@ viewRules v =
     ∷ queueSound (v .control .profile) (v .clock .time) 0 (v .queues .c0)
     ∷ queueSound (v .control .profile) (v .clock .time) 1 (v .queues .c1)
     ∷ queueSound (v .control .profile) (v .clock .time) 2 (v .queues .c2)
-    ∷ queueSound (v .control .profile) (v .clock .time) 3 (v .queues .c3) ∷ []
+    ∷ queueSound (v .control .profile) (v .clock .time) 3 (v .queues .c3)
+    ∷ allOf (countRules (waitingIn (v .queues)) (v .counts)) ∷ []
 
 unfoldable pub sound : View → Bool
 sound v = allOf (viewRules v)

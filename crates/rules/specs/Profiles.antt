@@ -97,3 +97,7 @@ lifetimeAllowed lifetime = within 1 60000000 lifetime
 -- "four queues of up to 5 packets"
 abbrev pub room : ℕ
 room = 5
+
+-- "accepted above 10^15, isn't sound" (document 02, W-201)
+abbrev pub mostOffers : ℕ
+mostOffers = 1000000000000000

@@ -46,6 +46,9 @@ pub const LAST_REACTIVE: u32 = 2;
 
 pub const LAST_PROFILE: u32 = 3;
 
+// No more offers are accepted from one make on.
+pub const MOST_OFFERS: u64 = 1000000000000000;
+
 // Profile 1: reactive, Table A.1.
 pub struct Profile1 {}
 

@@ -6,7 +6,7 @@
 //! The radio is played: its clock is `now`, which wraps on the way, and `hear_channel` makes up what it probes.
 //! All else is what a host does: sample, offer, poll, and wait as long as `Closed` says.
 
-use presscurlew::{Answer, Gate, Offer, Packet, Refusal};
+use presscurlew::{Answer, Counts, Gate, Offer, Packet, Refusal};
 
 const START: u32 = 4_294_000_000;
 const TICK_US: u32 = 10_000;
@@ -53,7 +53,6 @@ struct Host {
     /// No use to poll before: the gate said CLOSED.
     quiet_until: u32,
     offered: u32,
-    sent: u32,
     refused: u32,
     air_time: u32,
 }
@@ -76,7 +75,6 @@ impl Host {
             now: START,
             quiet_until: START,
             offered: 0,
-            sent: 0,
             refused: 0,
             air_time: 0,
         })
@@ -124,7 +122,6 @@ impl Host {
 
     /// Puts a packet on air.
     fn transmit(&mut self, packet: Packet) {
-        self.sent += 1;
         self.air_time += packet.ontime;
         let waited = self.gate.state().clock.time - packet.arrival;
         let name = MESSAGES[packet.id as usize & 3].name;
@@ -174,18 +171,23 @@ impl Host {
         Ok(())
     }
 
+    /// What the host has counted, and what the gate has: accepted is sent, expired and waiting together.
     fn sum_up(&self) {
         let Host {
             offered,
             refused,
-            sent,
             air_time,
             ..
         } = *self;
+        println!("{offered} offered, {refused} refused; {air_time} us on air");
+        let Counts {
+            accepted,
+            sent,
+            expired,
+        } = self.gate.counts();
         let queues = self.gate.state().queues.iter();
-        let waiting: u32 = queues.map(|queue| queue.len as u32).sum();
-        let expired = offered - refused - sent - waiting;
-        println!("{offered} offered, {refused} refused, {sent} sent, {waiting} waiting, {expired} expired; {air_time} us on air");
+        let waiting: u64 = queues.map(|queue| queue.len).sum();
+        println!("{accepted} accepted: {sent} sent, {expired} expired, {waiting} waiting");
     }
 }
 

@@ -36,6 +36,9 @@ pub struct State {
     pub at: u64,
     pub ontime: u32,
     pub any: u32,
+    pub accepted: u64,
+    pub sent: u64,
+    pub expired: u64,
     pub live: u32,
 }
 
@@ -49,6 +52,7 @@ pub enum Answer {
 }
 
 const END: u64 = 1_000_000_000_000_000;
+const MOST_OFFERS: u64 = 1_000_000_000_000_000;
 
 fn most_ontime(profile: u32) -> u32 {
     match profile {
@@ -90,7 +94,8 @@ impl Queue {
         self.slots[self.len..].iter().all(Packet::is_zero)
     }
 
-    fn clear(&mut self, now: u64) {
+    /// How many were expired.
+    fn clear(&mut self, now: u64) -> u64 {
         let mut kept = 0;
         for i in 0..self.len {
             if self.slots[i].is_live(now) {
@@ -103,7 +108,9 @@ impl Queue {
         for slot in &mut self.slots[kept..self.len] {
             *slot = Packet::default();
         }
+        let expired = self.len - kept;
         self.len = kept;
+        expired as u64
     }
 
     fn push(&mut self, p: Packet) {
@@ -155,6 +162,15 @@ impl State {
         control
             && last
             && (0..4).all(|k| self.queues[k].is_sound(k as u32, most, self.time))
+            && self.adds_up()
+    }
+
+    /// Whether accepted is sent, expired and waiting together, the queues being sound.
+    fn adds_up(&self) -> bool {
+        let waiting: usize = self.queues.iter().map(|q| q.len).sum();
+        let sum = self.sent.checked_add(self.expired);
+        self.accepted <= MOST_OFFERS
+            && sum.and_then(|n| n.checked_add(waiting as u64)) == Some(self.accepted)
     }
 
     /// The running time at a stamp, or the refusal.
@@ -178,7 +194,7 @@ impl State {
     fn clear(&mut self, now: u64, stamp: u32) {
         self.move_to(now, stamp);
         for q in &mut self.queues {
-            q.clear(now);
+            self.expired += q.clear(now);
         }
     }
 
@@ -255,7 +271,11 @@ impl State {
         if q.len == 5 && q.waiting().iter().all(|p| p.is_live(now)) {
             return Answer::Refused(8);
         }
+        if self.accepted >= MOST_OFFERS {
+            return Answer::Refused(11);
+        }
         self.clear(now, stamp);
+        self.accepted += 1;
         self.queues[priority as usize].push(Packet {
             id,
             priority,
@@ -283,6 +303,7 @@ impl State {
             }
         }
         let p = self.queues[k].pop();
+        self.sent += 1;
         self.any = 1;
         self.at = now;
         self.ontime = p.ontime;

@@ -10,8 +10,8 @@ const HELP: &str = "\
 curlew: make, read, check and draw call logs of the Presscurlew gate
 
   curlew write [IN.txt] [-o OUT.log]         plain text to a log
-  curlew show LOG [ANSWERS]                  a table: time, call, answer, what waits, level or duty
-  curlew check LOG ANSWERS                   were ceiling and floor kept, and how near was it
+  curlew show LOG [ANSWERS]                  a table: call, answer, counts, what waits, level or duty
+  curlew check LOG ANSWERS                   were ceiling and floor kept, and do the counts add up
   curlew plot LOG [ANSWERS] -o OUT.svg       a picture of a run
   curlew --help | --version                  'curlew COMMAND --help' says more on one command
 
@@ -53,10 +53,11 @@ curlew show [--from N] [--first N] [--brief] LOG [ANSWERS]: a log as a table
 curlew show [--from N] [--first N] --plain LOG: a log in the plain form
 
 A line a record: its number, the run's time in seconds, the call, the answer, how many packets
-wait in the queue of each priority, and the level (profiles 1 and 2) or the duty (profile 3)
-with the wait between two packets that it asks for. What waits is counted from calls and
-answers alone. Without ANSWERS, the answers are those of the second program. A line starts
-with ! where an answer is wrong, and the reason stands below it.
+were accepted, sent and expired so far, how many wait in the queue of each priority, and the
+level (profiles 1 and 2) or the duty (profile 3) with the wait between two packets that it asks
+for. Packets are counted from calls and answers alone, an expired one when it is removed: at
+the first offer or poll that finds it expired. Without ANSWERS, the answers are those of the
+second program. A line starts with ! where an answer is wrong, and the reason stands below it.
 
   --from N     start at record N
   --first N    show N lines
@@ -65,11 +66,13 @@ with ! where an answer is wrong, and the reason stands below it.
 ";
 
 const CHECK_HELP: &str = "\
-curlew check LOG ANSWERS: were ceiling and floor kept
+curlew check LOG ANSWERS: were ceiling and floor kept, and do the counts add up
 
 Keeps a book of each run (a make that was ready, and the calls up to the next make) from the
 calls and the answers alone, and says of each run:
 
+  Counts     accepted = sent + expired + waiting at every record, and each of the three is
+             what the second program's state has counted
   Ceiling    in any window of W µs, 100 x air time is at most 3 W + 400,000
   Floor      a poll that finds a packet 1 s or more after the last admission sends
   Turn       of each priority in order; one of priority 0 sees no more go than came before it

@@ -3,6 +3,7 @@
 use std::io::{self, BufWriter, StdoutLock, Write};
 
 use reference::book::FLOOR;
+use reference::state::Counts;
 
 use crate::args::CheckWish;
 use crate::fault::Fault;
@@ -87,7 +88,7 @@ impl Hearer for Verdict<'_> {
 
 /// The lines on a run that was kept.
 fn report(run: &Run) -> Vec<(&'static str, String)> {
-    let mut lines = vec![("Calls", calls(run)), ("Packets", packets(run))];
+    let mut lines = vec![("Calls", calls(run)), ("Counts", counts(run))];
     ceiling(run, &mut lines);
     floor(run, &mut lines);
     turn(run, &mut lines);
@@ -104,7 +105,7 @@ fn calls(run: &Run) -> String {
     let mut text = format!(
         "accepted: {}, {}, {}",
         count(watch.samples, "sample"),
-        count(run.book.offers(), "offer"),
+        count(run.book.counts().accepted, "offer"),
         count(watch.polls, "poll")
     );
     let refused: Vec<String> = (0u32..)
@@ -120,13 +121,18 @@ fn calls(run: &Run) -> String {
     text
 }
 
-fn packets(run: &Run) -> String {
+fn counts(run: &Run) -> String {
+    let Counts {
+        accepted,
+        sent,
+        expired,
+    } = run.book.counts();
     format!(
-        "{} taken: {} sent, {} expired, {} waiting at the end",
-        grouped(run.book.offers()),
-        grouped(run.book.admissions()),
-        grouped(run.book.expiries()),
-        grouped(run.waiting())
+        "KEPT. {} accepted = {} sent + {} expired + {} waiting at the end. They add up at every record.",
+        grouped(accepted),
+        grouped(sent),
+        grouped(expired),
+        grouped(run.book.waiting())
     )
 }
 

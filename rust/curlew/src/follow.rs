@@ -1,9 +1,10 @@
 //! A log followed run by run. Each run has its book, fed the calls and the
 //! answers that were given, and the second program beside it: its state shows
-//! level and duty, and its answers are what is right.
+//! level and duty, its answers are what is right, and its counts must be the
+//! book's.
 
 use reference::book::Book;
-use reference::calls::BAD_KIND;
+use reference::calls::SPENT;
 use reference::gate::{Answer, Call};
 use reference::log::{step, Record};
 use reference::state::{Packet, State};
@@ -158,6 +159,8 @@ impl Follower {
                 run.last = number;
                 if run.wrong.is_none() {
                     let judged = run.judge(record, said, right, &mut sent);
+                    // The book's own counts add up: it has looked at that itself.
+                    let judged = judged.and_then(|()| run.book.compare(&self.state.counts));
                     wrong = judged.err().map(|text| placed(number, record, &text));
                     run.wrong.clone_from(&wrong);
                 }
@@ -285,12 +288,6 @@ impl Run {
             grouped(self.last)
         )
     }
-
-    /// How many packets still wait.
-    pub fn waiting(&self) -> u64 {
-        let lengths = self.book.columns().iter().map(|column| column.len() as u64);
-        lengths.sum()
-    }
 }
 
 /// The call of a record, if it is one on a state.
@@ -340,7 +337,7 @@ fn placed(number: u64, record: &Record, text: &str) -> String {
 }
 
 /// The names of the refusal numbers.
-const REFUSALS: [&str; 11] = [
+const REFUSALS: [&str; 12] = [
     "",
     "BAD-PROFILE",
     "CLOCK-BACK",
@@ -352,11 +349,12 @@ const REFUSALS: [&str; 11] = [
     "QUEUE-FULL",
     "NO-STATE",
     "BAD-KIND",
+    "SPENT",
 ];
 
 /// The name of a refusal number.
 pub fn refusal_name(number: u32) -> &'static str {
-    debug_assert_eq!(REFUSALS.len() as u32, BAD_KIND + 1);
+    debug_assert_eq!(REFUSALS.len() as u32, SPENT + 1);
     REFUSALS.get(number as usize).copied().unwrap_or("unknown")
 }
 
@@ -423,9 +421,64 @@ mod tests {
             if let Some(window) = closest {
                 assert_eq!(window.air, air(window.from, window.to));
             }
-            assert_eq!(run.book.admissions(), sent.len() as u64);
+            assert_eq!(run.book.counts().sent, sent.len() as u64);
             self.runs += 1;
             Ok(())
+        }
+    }
+
+    /// Hears what was wrong, and at which record.
+    #[derive(Default)]
+    struct Ear {
+        wrong: Vec<(u64, String)>,
+    }
+
+    impl Hearer for Ear {
+        fn row(&mut self, row: &Row) -> Result<(), Fault> {
+            let wrong = row.wrong.map(|text| (row.number, text.to_string()));
+            self.wrong.extend(wrong);
+            Ok(())
+        }
+
+        fn run_over(&mut self, _run: &Run) -> Result<(), Fault> {
+            Ok(())
+        }
+    }
+
+    /// The second program counts as the book does, so no list of answers
+    /// reaches this fault; it is tried with a state that has counted otherwise.
+    #[test]
+    fn counts_that_are_not_the_books_are_wrong() {
+        let record = |kind: u8, priority: u8| Record {
+            kind,
+            priority,
+            ontime: 1,
+            lifetime: 9,
+            ..Record::default()
+        };
+        let (make, offer, poll) = (record(0, 1), record(2, 0), record(3, 0));
+        for (sent, expired, words) in [
+            (0, 0, None),
+            (1, 0, Some("has 2 accepted, the book 1")),
+            (0, 1, Some("has 2 accepted, the book 1")),
+        ] {
+            let (mut ear, mut follower) = (Ear::default(), Follower::new());
+            for (number, record) in [(1, make), (2, offer), (3, poll)] {
+                let fed = follower.feed(number, &record, None, &mut ear);
+                assert!(fed.is_ok());
+                if number == 1 {
+                    follower.state = follower.state.counted(sent, expired);
+                }
+            }
+            match words {
+                None => assert_eq!(ear.wrong, []),
+                Some(words) => {
+                    let [(2, text)] = &ear.wrong[..] else {
+                        panic!("{:?}", ear.wrong);
+                    };
+                    assert!(text.contains(words), "{text}");
+                }
+            }
         }
     }
 

@@ -119,16 +119,17 @@ fn facts(run: &Run) -> String {
     } else {
         "reactive"
     };
+    let counts = run.book.counts();
     format!(
         "Run {} · profile {} ({kind}) · {} · {} · {} taken: {} sent, {} expired, {} waiting at the end",
         grouped(run.number),
         run.profile,
         span(run.book.time()),
         count(run.last - run.first + 1, "call"),
-        count(run.book.offers(), "packet"),
-        grouped(run.book.admissions()),
-        grouped(run.book.expiries()),
-        grouped(run.waiting())
+        count(counts.accepted, "packet"),
+        grouped(counts.sent),
+        grouped(counts.expired),
+        grouped(run.book.waiting())
     )
 }
 

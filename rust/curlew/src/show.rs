@@ -1,10 +1,11 @@
 //! `curlew show`: a log as a table, or in the plain form.
 
+use std::fmt::Display;
 use std::io::{self, BufWriter, StdoutLock, Write};
 
 use reference::log::Record;
 use reference::rules;
-use reference::state::State;
+use reference::state::{Counts, State};
 
 use crate::fault::Fault;
 use crate::follow::{follow, refusal_name, Hearer, Row, Run};
@@ -104,13 +105,18 @@ impl Table<'_> {
         writeln!(out, "{}, {of}", self.wish.log)?;
         writeln!(
             out,
-            "{:>6}  {:>13}  {:<43}  {:<22}  {:^9}  gate",
-            "", "time", "", "", "waiting"
+            "{:>6}  {:>13}  {:<43}  {:<22}  {:<23}  {:^9}  gate",
+            "", "time", "", "", "packets", "waiting"
         )?;
         writeln!(
             out,
-            "{:>6}  {:>13}  {:<43}  {:<22}  {:^9}  level or duty, wait",
-            "record", "(s)", "call", "answer", "0 1 2 3"
+            "{:>6}  {:>13}  {:<43}  {:<22}  {}  {:^9}  level or duty, wait",
+            "record",
+            "(s)",
+            "call",
+            "answer",
+            three(["accepted", "sent", "expired"]),
+            "0 1 2 3"
         )?;
         Ok(())
     }
@@ -129,15 +135,16 @@ impl Hearer for Table<'_> {
         }
         self.shown += 1;
         let (mut time, mut waiting) = (String::new(), String::new());
+        let mut packets = three([""; 3]);
         if let Some(run) = row.run {
             time = seconds(run.book.time());
-            waiting = match run.wrong {
-                None => lengths(run),
-                Some(_) => "? ? ? ?".to_string(),
+            (packets, waiting) = match run.wrong {
+                None => (counts(run), lengths(run)),
+                Some(_) => (three(["?"; 3]), "? ? ? ?".to_string()),
             };
         }
         let line = format!(
-            "{:>6}  {:>13}  {:<43}  {:<22}  {:^9}  {}",
+            "{:>6}  {:>13}  {:<43}  {:<22}  {packets}  {:^9}  {}",
             grouped(row.number),
             time,
             call(&row.record),
@@ -162,6 +169,21 @@ impl Hearer for Table<'_> {
 fn moves_nothing(row: &Row) -> bool {
     let sampled = row.record.kind == 1 && row.said == Said::Taken;
     sampled || matches!(row.said, Said::Closed(_) | Said::Idle)
+}
+
+/// What stands in the columns of the three counts.
+fn three<T: Display>([accepted, sent, expired]: [T; 3]) -> String {
+    format!("{accepted:>8} {sent:>6} {expired:>7}")
+}
+
+/// How many packets were accepted, sent and expired.
+fn counts(run: &Run) -> String {
+    let Counts {
+        accepted,
+        sent,
+        expired,
+    } = run.book.counts();
+    three([accepted, sent, expired].map(grouped))
 }
 
 /// How many wait in each queue.

@@ -71,7 +71,7 @@ pub struct Watch {
     /// Accepted polls.
     pub polls: u64,
     /// Refusals, by number; the last place has those of no known number.
-    pub refusals: [u64; 12],
+    pub refusals: [u64; 13],
     /// The window whose slack is the smallest.
     pub closest: Option<Window>,
     /// The window that ends at the last admission and has the smallest slack.

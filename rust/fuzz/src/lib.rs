@@ -8,8 +8,8 @@
 mod help;
 
 use help::{
-    hold, hold_no_state, raw, Call, EDGE_COUNTS, EDGE_LIFETIMES, EDGE_ONTIMES, EDGE_PRIORITIES,
-    EDGE_STEPS, TIME_END,
+    hold, hold_no_state, raw, Call, ACCEPTED_MOST, EDGE_COUNTS, EDGE_LIFETIMES, EDGE_ONTIMES,
+    EDGE_PRIORITIES, EDGE_STEPS, TIME_END,
 };
 use reference::state::{sound, Packet, State};
 
@@ -86,6 +86,29 @@ impl Input<'_> {
             state.ontime = self.of(&[1, 500, 501, 1_000, 1_001, 4_000, 4_001, 0]);
         }
         self.fill_queues(&mut state);
+        self.counted(state)
+    }
+
+    /// The state with counts that add up, now and then with one that is off.
+    fn counted(&mut self, state: State) -> State {
+        let mut state = match self.byte() % 3 {
+            0 => state.counted(u64::from(self.number()), u64::from(self.number())),
+            // The last offers, and one too many.
+            1 => state.with_accepted(ACCEPTED_MOST + 1 - u64::from(self.byte() % 8)),
+            _ => state.counted(0, 0),
+        };
+        let off = u64::from(self.number()) << (self.byte() % 64);
+        let counts = &mut state.counts;
+        match self.byte() {
+            253 => counts.accepted = counts.accepted.wrapping_add(off),
+            254 => counts.sent = counts.sent.wrapping_add(off),
+            // The sum stays right modulo 2^64.
+            255 => {
+                counts.sent = counts.sent.wrapping_add(off);
+                counts.expired = counts.expired.wrapping_sub(off);
+            }
+            _ => {}
+        }
         state
     }
 

@@ -17,6 +17,9 @@
 //! // A clock that goes back is refused, and the gate stays as it was.
 //! assert_eq!(gate.poll(49_903), Err(Refusal::ClockBack));
 //! assert_eq!(gate.poll(49_904)?, Answer::Idle);
+//!
+//! let counts = gate.counts();
+//! assert_eq!((counts.accepted, counts.sent, counts.expired), (2, 2, 0));
 //! # Ok::<(), Refusal>(())
 //! ```
 
@@ -24,7 +27,7 @@ use std::error::Error;
 use std::fmt;
 
 use crate::sys;
-pub use crate::sys::Packet;
+pub use crate::sys::{Counts, Packet};
 
 /// The gate of one channel.
 ///
@@ -77,31 +80,33 @@ impl fmt::Display for Answer {
     }
 }
 
-/// Why a call was refused. A refused call changes nothing, clock included.
+/// Why a call was refused. A refused call changes nothing, clock and counts included.
 #[derive(Clone, Copy, Debug, PartialEq, Eq, Hash)]
 pub enum Refusal {
     /// The profile is not 1 to 3.
-    BadProfile,
+    BadProfile = 1,
     /// The step from the last stamp, modulo 2^32, is 2,147,483,648 or more.
-    ClockBack,
+    ClockBack = 2,
     /// The running time would pass 10^15 µs, some 31 years.
-    ClockEnd,
+    ClockEnd = 3,
     /// Not 16 words, or a bit above bit 39 set in the last, or a busy count above 1,000.
-    BadSample,
+    BadSample = 4,
     /// The priority is above 3.
-    BadPriority,
+    BadPriority = 5,
     /// The profile does not allow this on-time.
-    BadOnTime,
+    BadOnTime = 6,
     /// The lifetime is 0 or above 60,000,000.
-    BadLifetime,
+    BadLifetime = 7,
     /// 5 unexpired packets of this priority wait.
-    QueueFull,
+    QueueFull = 8,
     /// The state is not sound. A [`Gate`] never answers this; the calls in [`sys`] may.
-    NoState,
+    NoState = 9,
+    /// The gate has accepted 10^15 offers. (10 is a refusal of the log program alone.)
+    Spent = 11,
 }
 
-/// The refusals in the order of their numbers, from 1 on.
-const REFUSALS: [Refusal; 9] = [
+/// The refusals in the order of their numbers.
+const REFUSALS: [Refusal; 10] = [
     Refusal::BadProfile,
     Refusal::ClockBack,
     Refusal::ClockEnd,
@@ -111,12 +116,13 @@ const REFUSALS: [Refusal; 9] = [
     Refusal::BadLifetime,
     Refusal::QueueFull,
     Refusal::NoState,
+    Refusal::Spent,
 ];
 
 impl Refusal {
-    /// The refusal's number, 1 to 9, as a C caller sees it.
+    /// The refusal's number, 1 to 9 or 11, as a C caller sees it.
     pub const fn number(self) -> u32 {
-        self as u32 + 1
+        self as u32
     }
 
     /// The refusal of a number, if there is one.
@@ -143,6 +149,7 @@ impl Refusal {
             Refusal::BadLifetime => "BAD-LIFETIME",
             Refusal::QueueFull => "QUEUE-FULL",
             Refusal::NoState => "NO-STATE",
+            Refusal::Spent => "SPENT",
         }
     }
 
@@ -157,6 +164,7 @@ impl Refusal {
             Refusal::BadLifetime => "the lifetime is 0 or above 60,000,000",
             Refusal::QueueFull => "5 packets of this priority wait",
             Refusal::NoState => "the state is not sound",
+            Refusal::Spent => "10^15 offers were accepted already",
         }
     }
 }
@@ -218,7 +226,7 @@ impl Gate {
     /// # Errors
     ///
     /// [`Refusal::ClockBack`], [`Refusal::ClockEnd`], [`Refusal::BadPriority`], [`Refusal::BadOnTime`],
-    /// [`Refusal::BadLifetime`], [`Refusal::QueueFull`].
+    /// [`Refusal::BadLifetime`], [`Refusal::QueueFull`], [`Refusal::Spent`].
     pub fn offer(&mut self, offer: Offer, stamp: u32) -> Result<(), Refusal> {
         let Offer {
             id,
@@ -248,6 +256,28 @@ impl Gate {
             // The contract of a poll gives no other kind.
             _ => unreachable!("the archive answered a poll with {reply:?}"),
         })
+    }
+
+    /// How many offers were accepted, and how many of their packets were sent and how many expired; the others wait.
+    /// A packet counts as expired when it is removed: at the first offer or poll that finds it so.
+    ///
+    /// ```
+    /// use presscurlew::{Answer, Counts, Gate, Offer};
+    ///
+    /// let mut gate = Gate::new(1, 0)?;
+    /// for id in 0..3 {
+    ///     gate.offer(Offer { id, priority: 1, ontime: 400, lifetime: 60_000 }, 0)?;
+    /// }
+    /// gate.poll(0)?;
+    /// assert_eq!(gate.counts(), Counts { accepted: 3, sent: 1, expired: 0 });
+    ///
+    /// // The gate opens after 100 ms: too late for the other two.
+    /// assert_eq!(gate.poll(100_000)?, Answer::Idle);
+    /// assert_eq!(gate.counts(), Counts { accepted: 3, sent: 1, expired: 2 });
+    /// # Ok::<(), presscurlew::Refusal>(())
+    /// ```
+    pub fn counts(&self) -> Counts {
+        self.state.counts
     }
 
     /// The state, to look at: level, duty, what waits, the running time.

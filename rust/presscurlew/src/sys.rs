@@ -141,6 +141,18 @@ pub struct Last {
     pub any: u32,
 }
 
+/// What the gate has counted since it was made: `accepted` is `sent` + `expired` + the packets that wait.
+#[repr(C)]
+#[derive(Clone, Copy, Debug, Default, PartialEq, Eq, Hash)]
+pub struct Counts {
+    /// Offers accepted, at most 10^15.
+    pub accepted: u64,
+    /// Packets sent.
+    pub sent: u64,
+    /// Packets removed as expired: at an offer or a poll, never at a sample.
+    pub expired: u64,
+}
+
 /// The state of one gate. Any values at all may stand in it: the calls refuse a state that is not sound.
 #[repr(C)]
 #[derive(Clone, Copy, Debug, Default, PartialEq, Eq, Hash)]
@@ -153,6 +165,8 @@ pub struct State {
     pub control: Control,
     /// The last admission.
     pub last: Last,
+    /// What was accepted, sent and expired.
+    pub counts: Counts,
     /// 1; 0 in the all-zero state that a refused make hands back.
     pub live: u32,
 }

@@ -1,8 +1,8 @@
 //! The run's book ("A run and its book"), and the check of demand 3 over it.
 //!
 //! The book is fed each call's arguments and answer and nothing from the
-//! state. It uses none of the gate's rules: its clock and its expiries are
-//! written out again here. What it checks after every call:
+//! state. It uses none of the gate's rules: its clock, its expiries and its
+//! counts are written out again here. What it checks after every call:
 //!
 //! 1. The ceiling: over any window of W µs, closed at both ends,
 //!    100 × air time admitted is at most 3 × W + 400,000.
@@ -11,14 +11,15 @@
 //! 3. SENT never comes with all columns empty, and carries the packet struck.
 //! 4. A packet of priority 0 still there has seen at most k admissions.
 //! 5. IDLE comes exactly if all columns are empty.
+//! 6. W-201: offers accepted are packets sent, expired and waiting together.
 //!
 //! How often a gate refuses, and how many µs a CLOSED says, is not the book's
-//! matter.
+//! matter. The counts of a state can be held to the book's own.
 
 use std::collections::VecDeque;
 
 pub use crate::calls::{Answer, Call};
-use crate::state::Packet;
+use crate::state::{Counts, Packet};
 
 /// The ceiling's part that does not grow with the window.
 pub const CEILING_BASE: i128 = 400_000;
@@ -59,9 +60,7 @@ pub struct Book {
     time: u64,
     stamp: u32,
     columns: [VecDeque<Entry>; 4],
-    offers: u64,
-    admissions: u64,
-    expiries: u64,
+    counts: Counts,
     last_admission: Option<u64>,
     heaviest: i128,
     closest: Closest,
@@ -74,9 +73,7 @@ impl Book {
             time: 0,
             stamp,
             columns: Default::default(),
-            offers: 0,
-            admissions: 0,
-            expiries: 0,
+            counts: Counts::default(),
             last_admission: None,
             heaviest: 0,
             closest: Closest::default(),
@@ -98,19 +95,14 @@ impl Book {
         &self.columns
     }
 
-    /// How many packets were written.
-    pub fn offers(&self) -> u64 {
-        self.offers
+    /// How many packets were written, were admitted, and left by expiry.
+    pub fn counts(&self) -> Counts {
+        self.counts
     }
 
-    /// How many packets were admitted.
-    pub fn admissions(&self) -> u64 {
-        self.admissions
-    }
-
-    /// How many packets left by expiry.
-    pub fn expiries(&self) -> u64 {
-        self.expiries
+    /// How many packets stand in the columns.
+    pub fn waiting(&self) -> u64 {
+        self.columns.iter().map(|column| column.len() as u64).sum()
     }
 
     /// The time of the last admission.
@@ -131,17 +123,50 @@ impl Book {
         }
         self.move_clock(call.stamp());
         match call {
-            Call::SampleWords { .. } | Call::SampleCount { .. } => taken(answer),
+            Call::SampleWords { .. } | Call::SampleCount { .. } => taken(answer)?,
             Call::Offer { .. } => {
                 taken(answer)?;
                 self.strike_expired();
-                self.write(call)
+                self.write(call)?;
             }
             Call::Poll { .. } => {
                 self.strike_expired();
-                self.judge_poll(answer)
+                self.judge_poll(answer)?;
             }
         }
+        self.add_up()
+    }
+
+    /// Holds the counts of a state to the book's own. The book takes nothing
+    /// from them.
+    pub fn compare(&self, counts: &Counts) -> Result<(), String> {
+        let of = [
+            ("accepted", counts.accepted, self.counts.accepted),
+            ("sent", counts.sent, self.counts.sent),
+            ("expired", counts.expired, self.counts.expired),
+        ];
+        match of.into_iter().find(|(_, state, book)| state != book) {
+            Some((name, state, book)) => Err(format!(
+                "counts: the state has {state} {name}, the book {book}"
+            )),
+            None => Ok(()),
+        }
+    }
+
+    /// W-201: accepted equals sent plus expired plus waiting.
+    fn add_up(&self) -> Result<(), String> {
+        let Counts {
+            accepted,
+            sent,
+            expired,
+        } = self.counts;
+        let waiting = self.waiting();
+        if accepted == sent + expired + waiting {
+            return Ok(());
+        }
+        Err(format!(
+            "counts: {accepted} accepted, but {sent} sent, {expired} expired, {waiting} waiting"
+        ))
     }
 
     /// The step from the book's stamp to the call's is added to the time.
@@ -160,7 +185,7 @@ impl Book {
                 let age = time - entry.packet.arrival;
                 age < u64::from(entry.packet.lifetime)
             });
-            self.expiries += (before - column.len()) as u64;
+            self.counts.expired += (before - column.len()) as u64;
         }
     }
 
@@ -192,9 +217,9 @@ impl Book {
         column.push_back(Entry {
             packet,
             above: column.len() as u64,
-            admissions_before: self.admissions,
+            admissions_before: self.counts.sent,
         });
-        self.offers += 1;
+        self.counts.accepted += 1;
         Ok(())
     }
 
@@ -236,7 +261,7 @@ impl Book {
         if struck.packet != *sent {
             return Err(format!("SENT {sent:?}, struck {:?}", struck.packet));
         }
-        self.admissions += 1;
+        self.counts.sent += 1;
         self.weigh(struck.packet.ontime)?;
         self.look_at_priority_0()
     }
@@ -282,7 +307,7 @@ impl Book {
     /// run may end after any call, so this is looked at after each admission.
     fn look_at_priority_0(&mut self) -> Result<(), String> {
         for entry in &self.columns[0] {
-            let seen = self.admissions - entry.admissions_before;
+            let seen = self.counts.sent - entry.admissions_before;
             self.closest.most_seen = self.closest.most_seen.max(seen);
             if seen > entry.above {
                 let (id, above) = (entry.packet.id, entry.above);
@@ -327,5 +352,24 @@ mod tests {
         book.columns[0][1].above = 0;
         let said = book.feed(&poll, &sent).unwrap_err();
         assert!(said.contains("priority 0"));
+    }
+
+    /// The book counts what it writes and strikes, so no list of calls and
+    /// answers reaches this error; it is tried on pages with a wrong count.
+    #[test]
+    fn counts_that_do_not_add_up_are_rejected() {
+        let poll = Call::Poll { stamp: 0 };
+        Book::new(0).feed(&poll, &Answer::Idle).unwrap();
+        let bent: [fn(&mut Counts); 3] = [
+            |counts| counts.accepted += 1,
+            |counts| counts.sent += 1,
+            |counts| counts.expired += 1,
+        ];
+        for bend in bent {
+            let mut book = Book::new(0);
+            bend(&mut book.counts);
+            let said = book.feed(&poll, &Answer::Idle).unwrap_err();
+            assert!(said.contains("counts"), "{said}");
+        }
     }
 }

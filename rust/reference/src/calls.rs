@@ -22,6 +22,8 @@ pub const QUEUE_FULL: u32 = 8;
 pub const NO_STATE: u32 = 9;
 /// "Refusal numbers": log record kind above 3.
 pub const BAD_KIND: u32 = 10;
+/// W-201: an offer when 10^15 were accepted already.
+pub const SPENT: u32 = 11;
 
 /// A call on the state: everything but make.
 #[derive(Clone, Debug, PartialEq, Eq)]

@@ -6,7 +6,7 @@
 pub use crate::calls::{Answer, Call};
 use crate::calls::{
     BAD_LIFETIME, BAD_ON_TIME, BAD_PRIORITY, BAD_PROFILE, BAD_SAMPLE, CLOCK_BACK, CLOCK_END,
-    NO_STATE, QUEUE_FULL,
+    NO_STATE, QUEUE_FULL, SPENT,
 };
 use crate::rules;
 use crate::state::{sound, Packet, Queue, State, QUEUES, SLOTS};
@@ -30,7 +30,7 @@ pub fn sample_count(state: State, busy: u32, stamp: u32) -> (State, Answer) {
     sample(state, rules::load_of_count(busy), stamp)
 }
 
-/// An offer of one packet: 9, 2, 3, 5, 6, 7, 8, else it joins its queue.
+/// An offer of one packet: 9, 2, 3, 5, 6, 7, 8, 11, else it joins its queue.
 pub fn offer(
     state: State,
     id: u32,
@@ -56,6 +56,7 @@ pub fn offer(
     }
     let queue = &mut next.queues[priority as usize];
     *queue = joined(queue, packet);
+    next.counts.accepted += 1;
     (next, Answer::Taken)
 }
 
@@ -148,8 +149,8 @@ fn load_learnt(state: State, load: u32) -> State {
     }
 }
 
-/// "Refusal numbers": checks 5, 6, 7 and 8 of an offer, given the state at
-/// the new time with the expired packets gone.
+/// "Refusal numbers" and W-201: checks 5, 6, 7, 8 and 11 of an offer, given
+/// the state at the new time with the expired packets gone.
 fn offer_refusal(state: &State, packet: &Packet) -> Option<u32> {
     if packet.priority > rules::PRIORITY_MOST {
         return Some(BAD_PRIORITY);
@@ -164,16 +165,26 @@ fn offer_refusal(state: &State, packet: &Packet) -> Option<u32> {
     if queue.waiting().len() == SLOTS {
         return Some(QUEUE_FULL);
     }
+    if state.counts.accepted == rules::ACCEPTED_MOST {
+        return Some(SPENT);
+    }
     None
 }
 
-/// "Waiting and leaving": every expired packet is removed, in all queues.
+/// "Waiting and leaving": every expired packet is removed, in all queues, and
+/// counted as it goes.
 fn expired_removed(state: State) -> State {
     let mut queues = [Queue::default(); QUEUES];
+    let mut counts = state.counts;
     for (kept, queue) in queues.iter_mut().zip(&state.queues) {
         *kept = unexpired(queue, state.time);
+        counts.expired += queue.len - kept.len;
     }
-    State { queues, ..state }
+    State {
+        queues,
+        counts,
+        ..state
+    }
 }
 
 /// The queue without its expired packets, the others in their order.
@@ -220,8 +231,8 @@ fn time_left(state: &State) -> Option<u64> {
     }
 }
 
-/// The state after the packet left the front of its queue and was recorded as
-/// the last admission.
+/// The state after the packet left the front of its queue, was recorded as the
+/// last admission and counted as sent.
 fn admitted(state: State, packet: Packet) -> State {
     let mut next = state;
     let queue = &mut next.queues[packet.priority as usize];
@@ -229,5 +240,6 @@ fn admitted(state: State, packet: Packet) -> State {
     next.any = true;
     next.at = state.time;
     next.ontime = packet.ontime;
+    next.counts.sent += 1;
     next
 }

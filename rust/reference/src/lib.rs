@@ -1,7 +1,8 @@
 //! The second, independent program of the gate.
 //!
-//! It is document 01 written out plainly, to be read beside that paper and
-//! run beside the product. It shares no code and no table with the product.
+//! It is document 01 written out plainly, with request W-201 of document 02,
+//! to be read beside those papers and run beside the product. It shares no
+//! code and no table with the product.
 //!
 //! - [`rules`]: the rules on plain numbers, and each profile's constants
 //! - [`ccalls`]: the four calls for the radio maker's C stack
@@ -11,6 +12,7 @@
 //! - [`book`]: the run's book, and the check of demand 3 over a run
 //! - [`log`]: the call log and its program
 //! - [`rng`]: a small number generator for tests
+//! - [`miscounts`]: counts that don't add up, for tests
 //!
 //! Times are whole microseconds (µs), duty is in parts per 1,000,000,000 and
 //! load in parts per 1,000,000.
@@ -23,6 +25,7 @@ pub mod calls;
 pub mod ccalls;
 pub mod gate;
 pub mod log;
+pub mod miscounts;
 pub mod rng;
 pub mod rules;
 pub mod state;

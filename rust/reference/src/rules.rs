@@ -84,6 +84,8 @@ pub const SAMPLE_WORDS: usize = 16;
 pub const LAST_WORD_BITS: u32 = 40;
 /// The running time at which the clock ends: 10^15 µs, still good itself.
 pub const TIME_END: u64 = 1_000_000_000_000_000;
+/// The most offers that a state accepts (W-201): 10^15, still good itself.
+pub const ACCEPTED_MOST: u64 = 1_000_000_000_000_000;
 /// The longest lifetime, in µs. The shortest is 1.
 pub const LIFETIME_MOST: u32 = 60_000_000;
 /// The highest priority number.
@@ -257,6 +259,12 @@ pub fn wait(profile: u32, level: u32, duty: u32, ontime: u32) -> Option<u32> {
 /// the lifetime. An arrival still to come has no age, so it is not expired.
 pub fn expired(time: u64, arrival: u64, lifetime: u32) -> bool {
     arrival <= time && time - arrival >= u64::from(lifetime)
+}
+
+/// W-201: accepted equals sent plus expired plus waiting, as whole numbers: in
+/// 128 bits three numbers of 64 don't wrap.
+pub fn counts_add_up(accepted: u64, sent: u64, expired: u64, waiting: u64) -> bool {
+    u128::from(accepted) == u128::from(sent) + u128::from(expired) + u128::from(waiting)
 }
 
 /// "Samples": probe k is bit k mod 64 of word k / 64; busy if that bit is 1.

@@ -1,4 +1,4 @@
-//! The state, and what makes one sound ("State and calls").
+//! The state, and what makes one sound ("State and calls", and W-201's counts).
 //!
 //! The fields are raw, so that any state a host could build can be judged.
 
@@ -63,6 +63,17 @@ impl Queue {
     }
 }
 
+/// W-201: what has come to the gate, and how it left.
+#[derive(Clone, Copy, Debug, Default, PartialEq, Eq)]
+pub struct Counts {
+    /// Offers accepted.
+    pub accepted: u64,
+    /// Packets sent.
+    pub sent: u64,
+    /// Packets expired, each counted at its removal.
+    pub expired: u64,
+}
+
 /// The state of a gate, sound or not. The default one is all-zero, not live.
 #[derive(Clone, Copy, Debug, Default, PartialEq, Eq)]
 pub struct State {
@@ -92,6 +103,8 @@ pub struct State {
     pub ontime: u32,
     /// The four queues, by priority.
     pub queues: [Queue; QUEUES],
+    /// What was accepted, sent and expired.
+    pub counts: Counts,
 }
 
 impl State {
@@ -110,13 +123,31 @@ impl State {
     pub fn waiting(&self) -> usize {
         self.queues.iter().map(|queue| queue.waiting().len()).sum()
     }
+
+    /// The state with so many sent and expired, and as many accepted as make
+    /// them add up, for those who make states to test with.
+    pub fn counted(mut self, sent: u64, expired: u64) -> State {
+        self.counts = Counts {
+            accepted: sent + expired + self.waiting() as u64,
+            sent,
+            expired,
+        };
+        self
+    }
+
+    /// The state with so many accepted, at least those that wait; of the others
+    /// half were sent and the rest expired. For the same use.
+    pub fn with_accepted(self, accepted: u64) -> State {
+        let gone = accepted - self.waiting() as u64;
+        self.counted(gone / 2, gone - gone / 2)
+    }
 }
 
 /// One rule of soundness: its name, and whether it holds of a state.
 type Rule = (&'static str, fn(&State) -> bool);
 
-/// The rules in the order of the paper's list.
-const RULES: [Rule; 20] = [
+/// The rules in the order of the paper's list, then W-201's two.
+const RULES: [Rule; 22] = [
     ("live", |s| s.live),
     ("profile 1 to 3", |s| rules::profile_known(s.profile)),
     ("level at most 4", |s| s.level <= rules::LEVEL_MOST),
@@ -153,6 +184,17 @@ const RULES: [Rule; 20] = [
         s.any || s.ontime == 0
     }),
     ("slots past the length zero", unused_slots_zero),
+    ("counts add up", |s| {
+        let Counts {
+            accepted,
+            sent,
+            expired,
+        } = s.counts;
+        rules::counts_add_up(accepted, sent, expired, s.waiting() as u64)
+    }),
+    ("accepted at most 10^15", |s| {
+        s.counts.accepted <= rules::ACCEPTED_MOST
+    }),
 ];
 
 fn lengths_good(state: &State) -> bool {
@@ -206,7 +248,7 @@ fn unused_slots_zero(state: &State) -> bool {
         .all(|queue| queue.unused().iter().all(zero))
 }
 
-/// The names of all rules, in the order of the paper's list.
+/// The names of all rules, in their order.
 pub fn rule_names() -> Vec<&'static str> {
     RULES.iter().map(|(name, _)| *name).collect()
 }

@@ -27,6 +27,9 @@ returns c =
     let l = c .before .before in
     c .keeping2 .ensures ∙ rw (l .before .before .choice .given .1, ← (l .left-of .ensures), ne-eqb _ _ (c .before .if1 .taken))
 
+add-counted : tie.Need-add-counted
+add-counted c = search needs
+
 returns-2 : tie.Need-returns-2
 unfolding pollPlan
 returns-2 c = c .keeping .ensures ∙ rw (c .before .enum-told .given .1)
@@ -34,8 +37,9 @@ returns-2 c = c .keeping .ensures ∙ rw (c .before .enum-told .given .1)
 returns-3 : tie.Need-returns-3
 unfolding pollPlan
 returns-3 c =
-    let l = c .before in
-    rw (l .before .before .choice .given .1, ← (l .left-of .ensures), eq-eqb _ _ (c .if1 .left))
+    let i = c .before in
+    let l = i .before in
+    rw (l .before .before .choice .given .1, ← (l .left-of .ensures), eq-eqb _ _ (i .if1 .left))
 
 pub plan-poll-spec : {M : Type 1} → statement M
 plan-poll-spec =
@@ -47,5 +51,6 @@ plan-poll-spec =
     left-of-requires
     keeping-requires-2
     returns
+    add-counted
     returns-2
     returns-3)

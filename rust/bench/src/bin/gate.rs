@@ -65,6 +65,9 @@ fn state(s: sys::State) -> State {
         at: s.last.at,
         ontime: s.last.ontime,
         any: s.last.any,
+        accepted: s.counts.accepted,
+        sent: s.counts.sent,
+        expired: s.counts.expired,
         live: s.live,
     }
 }

@@ -27,7 +27,7 @@ fn the_sample_is_kept() {
     for words in [
         "Run 1: profile 2, 0.050200 s, records 1 to 8",
         "accepted: 0 samples, 2 offers, 4 polls; refused: 1 CLOCK-BACK",
-        "2 taken: 2 sent, 0 expired, 0 waiting at the end",
+        "Counts     KEPT. 2 accepted = 2 sent + 0 expired + 0 waiting at the end. They add up at every record.",
         "KEPT. Most air time in any second: 800 µs of 34 ms, up to 0.050200 s.",
         "Closest call: one packet at 0.000200 s, with 400 µs of the 4,000 µs allowed.",
         "KEPT. Latest CLOSED: 800 µs after an admission; from 1 s on a poll sends.",
@@ -46,6 +46,7 @@ fn one_wrong_answer_is_found() {
         (1, "REFUSED 1", "the answer is REFUSED 1, the right one is READY"),
         (2, "IDLE", "record 2 (offer 7 priority 2 ontime 400 lifetime 1000000 at 4294967100): IDLE is no answer"),
         (2, "REFUSED 8", "the answer is REFUSED 8, the right one is TAKEN"),
+        (2, "REFUSED 11", "the answer is REFUSED 11, the right one is TAKEN"),
         (4, "SENT 7", "SENT 7, but packet 8 of priority 1 is first in turn"),
         (4, "IDLE", "record 4 (poll at 4294967200): IDLE, but a packet waits"),
         (4, "CLOSED 5", "floor: CLOSED before any admission"),
@@ -181,6 +182,36 @@ fn the_floor_is_watched() {
     );
 }
 
+/// Sent, expired and waiting are counted from calls and answers, each where it happens, and anew in each run.
+#[test]
+fn the_counts_of_each_run() {
+    let text = "make 1 at 0\n\
+        offer 1 priority 0 ontime 9 lifetime 60s at +0\n\
+        offer 2 priority 1 ontime 9 lifetime 5 at +0\n\
+        offer 3 priority 9 ontime 9 lifetime 5 at +0\n\
+        poll at +0\n\
+        offer 4 priority 2 ontime 9 lifetime 60s at +5\n\
+        offer 5 priority 3 ontime 9 lifetime 5 at +0\n\
+        sample 0 at +5\n\
+        make 2 at 0\n\
+        poll at +0\n";
+    let log = log_of(text);
+    let told = check(&log, &answers(&log)).good().text();
+    for words in [
+        // 2 was removed at the offer of 4; 5 has expired, and no offer or poll has come to remove it.
+        "4 accepted = 1 sent + 1 expired + 2 waiting at the end.",
+        "0 accepted = 0 sent + 0 expired + 0 waiting at the end.",
+    ] {
+        assert!(told.contains(words), "no '{words}' in: {told}");
+    }
+    let text = text.replace("make 2", "poll at +0\nmake 2");
+    let told = check(&log_of(&text), &answers(&log_of(&text)))
+        .good()
+        .text();
+    let words = "4 accepted = 1 sent + 2 expired + 1 waiting at the end.";
+    assert!(told.contains(words), "no '{words}' in: {told}");
+}
+
 #[test]
 fn several_runs_each_have_a_verdict() {
     let text = "poll at 0\nmake 1 at 5\npoll at +1\nmake 9 at 7\npoll at 8\nmake 2 at 9\n\
@@ -253,7 +284,7 @@ fn random_runs_and_random_changes() {
         let at = rng.below(lines.len() as u64 - 1) as usize;
         let other = match log[16 * at] {
             0 => "REFUSED 1".to_string(),
-            1 | 2 if lines[at] == "TAKEN" => format!("REFUSED {}", 1 + rng.below(10)),
+            1 | 2 if lines[at] == "TAKEN" => format!("REFUSED {}", 1 + rng.below(11)),
             1 | 2 => "TAKEN".to_string(),
             _ => {
                 let id = rng.below(400);

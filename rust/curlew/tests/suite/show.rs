@@ -10,17 +10,32 @@ fn the_sample() {
     let shown = shown.good().text();
     let lines: Vec<String> = shown.lines().skip(3).map(squeezed).collect();
     let wanted = [
-        "1 0.000000 make, profile 2, stamp 4,294,967,000 READY 0 0 0 0 level 0, 50 ms",
-        "2 0.000100 offer 7: priority 2, 400 µs, lives 1 s TAKEN 0 0 1 0 level 0, 50 ms",
-        "3 0.000100 offer 8: priority 1, 400 µs, lives 60 ms TAKEN 0 1 1 0 level 0, 50 ms",
-        "4 0.000200 poll SENT 8 0 0 1 0 level 0, 50 ms",
-        "5 0.001000 poll CLOSED 49200 0 0 1 0 level 0, 50 ms",
-        "6 0.050200 poll SENT 7 0 0 0 0 level 0, 50 ms",
-        "7 0.050200 poll REFUSED 2 CLOCK-BACK 0 0 0 0 level 0, 50 ms",
-        "8 0.050200 poll IDLE 0 0 0 0 level 0, 50 ms",
+        "1 0.000000 make, profile 2, stamp 4,294,967,000 READY 0 0 0 0 0 0 0 level 0, 50 ms",
+        "2 0.000100 offer 7: priority 2, 400 µs, lives 1 s TAKEN 1 0 0 0 0 1 0 level 0, 50 ms",
+        "3 0.000100 offer 8: priority 1, 400 µs, lives 60 ms TAKEN 2 0 0 0 1 1 0 level 0, 50 ms",
+        "4 0.000200 poll SENT 8 2 1 0 0 0 1 0 level 0, 50 ms",
+        "5 0.001000 poll CLOSED 49200 2 1 0 0 0 1 0 level 0, 50 ms",
+        "6 0.050200 poll SENT 7 2 2 0 0 0 0 0 level 0, 50 ms",
+        "7 0.050200 poll REFUSED 2 CLOCK-BACK 2 2 0 0 0 0 0 level 0, 50 ms",
+        "8 0.050200 poll IDLE 2 2 0 0 0 0 0 level 0, 50 ms",
         "END",
     ];
     assert_eq!(lines, wanted);
+}
+
+/// Each count stands below its name, and the table ends with those of the run.
+#[test]
+fn the_counts_stand_in_their_columns() {
+    let shown = curlew(&["show", &example("jam", "log")]).good().text();
+    let lines: Vec<Vec<char>> = shown.lines().map(|line| line.chars().collect()).collect();
+    let heading: String = lines[2].iter().collect();
+    let last = &lines[lines.len() - 2];
+    for (name, number) in [("accepted", "58"), ("sent", "16"), ("expired", "37")] {
+        let at = heading.find(name).unwrap();
+        let column: String = last[at..at + name.len()].iter().collect();
+        assert_eq!(column.trim(), number, "{shown}");
+    }
+    assert!(heading.is_ascii(), "bytes are columns: {heading}");
 }
 
 fn squeezed(line: &str) -> String {
@@ -89,6 +104,20 @@ fn wrong_answers_are_marked() {
     let marked: Vec<&str> = text.lines().filter(|line| line.starts_with('!')).collect();
     assert_eq!(marked.len(), 1, "{text}");
     assert!(marked[0].contains("IDLE"), "{text}");
+    // From there on the book has no use.
+    for line in text.lines().filter(|line| line.contains("poll")).skip(1) {
+        let unknown = line.contains("?      ?       ?   ? ? ? ?");
+        assert!(unknown || line.contains("record 5 ("), "{text}");
+    }
+}
+
+#[test]
+fn an_offer_that_was_spent_is_named() {
+    let folder = Folder::new();
+    let out = String::from_utf8(example_bytes("sample", "out")).unwrap();
+    let out = folder.file("bad.out", out.replacen("TAKEN", "REFUSED 11", 1));
+    let shown = curlew(&["show", &example("sample", "log"), &out]);
+    shown.failed(1, "REFUSED 11 SPENT");
 }
 
 #[test]

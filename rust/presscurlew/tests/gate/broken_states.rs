@@ -3,8 +3,10 @@
 
 use std::collections::BTreeMap;
 
-use crate::help::{calls_at, hold, hold_no_state, raw, PROFILES, TIME_END};
+use crate::help::{calls_at, hold, hold_no_state, raw, ACCEPTED_MOST, PROFILES, TIME_END};
 use presscurlew::sys;
+use reference::miscounts::{one_off, wrapping};
+use reference::rng::Rng;
 use reference::rules;
 use reference::state::{broken_rules, rule_names, Packet, Queue, State};
 
@@ -28,7 +30,7 @@ fn base(profile: u32, length: usize) -> State {
         };
         state.queues[priority as usize] = Queue::of(&vec![packet; length]);
     }
-    state
+    state.counted(700, 40)
 }
 
 /// Broken states, each with the name of the rule that it breaks.
@@ -110,11 +112,25 @@ impl Broken {
         for state in [State::fresh(profile, 77), base(profile, 5)] {
             for queue in 0..4 {
                 for bad in [6, 7, 255, 1 << 32, (1 << 32) + 1, 1 << 63, u64::MAX] {
+                    // The counts add up without that queue, of which nothing can be read.
                     self.add("queue length at most 5", state, |s| {
-                        s.queues[queue].len = bad
+                        s.queues[queue].len = bad;
+                        *s = s.counted(s.counts.sent, s.counts.expired);
                     });
                 }
             }
+        }
+    }
+
+    /// A sum that is wrong, or right modulo 2^64 alone, and more accepted than may be.
+    fn counts(&mut self, state: State, rng: &mut Rng) {
+        for bad in one_off(&state).into_iter().chain(wrapping(&state, rng)) {
+            self.add("counts add up", state, |s| s.counts = bad);
+        }
+        for bad in [ACCEPTED_MOST + 1, 1 << 63, u64::MAX] {
+            self.add("accepted at most 10^15", state, |s| {
+                *s = s.with_accepted(bad)
+            });
         }
     }
 
@@ -170,11 +186,14 @@ impl Broken {
 
     fn all() -> Broken {
         let mut broken = Broken::default();
+        let mut rng = Rng::new(0xc0c7);
         for profile in PROFILES {
             broken.control(profile);
             broken.clock_and_last(profile);
             broken.lengths(profile);
+            broken.counts(State::fresh(profile, 77), &mut rng);
             for length in 0..=5 {
+                broken.counts(base(profile, length), &mut rng);
                 for queue in 0..4 {
                     (0..length).for_each(|slot| broken.waiting(profile, length, queue, slot));
                     (length..5).for_each(|slot| broken.unused(profile, length, queue, slot));
@@ -230,6 +249,24 @@ fn one_broken_rule_is_refused_with_9() {
     }
 }
 
+/// A length above 5 is refused also where the counts add up to it, or do so modulo 2^64.
+#[test]
+fn lengths_that_the_counts_agree_with_are_refused_with_9() {
+    for profile in PROFILES {
+        for length in 0..=5 {
+            for queue in 0..4 {
+                for bad in [6, 7, 255, 1 << 32, 1 << 63, u64::MAX] {
+                    let mut state = raw(&base(profile, length));
+                    state.queues[queue].len = bad;
+                    let more = bad - length as u64;
+                    state.counts.accepted = state.counts.accepted.wrapping_add(more);
+                    hold_all_calls(&state, &format_args!("length {bad}: {state:?}"));
+                }
+            }
+        }
+    }
+}
+
 /// A flag is 0 or 1; the reference has no other, so they are bent in the archive's own state.
 #[test]
 fn flags_above_1_are_refused_with_9() {
@@ -270,6 +307,12 @@ fn states_of_no_sense_are_refused_with_9() {
             slots: [packet; 5],
         }; 4];
         state.control.profile = fill;
+        let count = u64::from(fill);
+        state.counts = sys::Counts {
+            accepted: count,
+            sent: count,
+            expired: count,
+        };
         state.live = fill;
         hold_all_calls(&state, &format_args!("a state of {fill}"));
     }

@@ -6,12 +6,14 @@ use presscurlew::sys;
 use reference::gate;
 use reference::rng::Rng;
 use reference::rules;
-use reference::state::{Packet, Queue, State};
+use reference::state::{Counts, Packet, Queue, State};
 
 pub use reference::gate::{Answer, Call};
 
 pub const PROFILES: [u32; 3] = [1, 2, 3];
 pub const TIME_END: u64 = 1_000_000_000_000_000;
+/// The most offers that a state accepts.
+pub const ACCEPTED_MOST: u64 = 1_000_000_000_000_000;
 
 /// Numbers at which a priority, an on-time, a lifetime or a busy count turns good or bad.
 pub const EDGE_PRIORITIES: [u32; 8] = [0, 1, 2, 3, 4, 5, 1 << 31, u32::MAX];
@@ -95,7 +97,17 @@ pub fn raw(state: &State) -> sys::State {
             ontime: state.ontime,
             any: u32::from(state.any),
         },
+        counts: raw_counts(&state.counts),
         live: u32::from(state.live),
+    }
+}
+
+/// Counts of the reference as the archive has them.
+pub fn raw_counts(counts: &Counts) -> sys::Counts {
+    sys::Counts {
+        accepted: counts.accepted,
+        sent: counts.sent,
+        expired: counts.expired,
     }
 }
 

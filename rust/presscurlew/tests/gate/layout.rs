@@ -4,7 +4,7 @@
 use std::fmt::Write;
 use std::mem::{offset_of, size_of};
 
-use presscurlew::sys::{Clock, Control, Last, Packet, Queue, Reply, State, Turn};
+use presscurlew::sys::{Clock, Control, Counts, Last, Packet, Queue, Reply, State, Turn};
 
 const LAYOUT: &str = include_str!("../../../../examples/c/layout.out");
 
@@ -24,7 +24,8 @@ fn structs_lie_as_c_sees_them() {
     layout!(text, "clock", Clock, time, stamp);
     layout!(text, "control", Control, profile, level, duty, smoothed, kept, pairing);
     layout!(text, "last", Last, at, ontime, any);
-    layout!(text, "state", State, queues, clock, control, last, live);
+    layout!(text, "counts", Counts, accepted, sent, expired);
+    layout!(text, "state", State, queues, clock, control, last, counts, live);
     layout!(text, "reply", Reply, packet, number, kind);
     layout!(text, "turn", Turn, state, reply);
     assert_eq!(text, LAYOUT);

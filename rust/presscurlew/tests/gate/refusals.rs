@@ -1,13 +1,15 @@
-//! Which refusal a call answers: the first that holds, in the order 9, 2, 3, then 4, 5, 6, 7, 8. The expected
+//! Which refusal a call answers: the first that holds, in the order 9, 2, 3, then 4, 5, 6, 7, 8, 11. The expected
 //! numbers stand here as a table, apart from the reference.
 
-use crate::help::{archive, first_busy, raw, raw_reply, Answer, Call, PROFILES, TIME_END};
+use crate::help::{
+    archive, first_busy, raw, raw_reply, Answer, Call, ACCEPTED_MOST, PROFILES, TIME_END,
+};
 use presscurlew::sys;
 use reference::rules;
 use reference::state::{Packet, Queue, State};
 
-/// A sound state near the end of time whose queue 1 is full until the end.
-fn late(profile: u32) -> State {
+/// A sound state near the end of time whose queue 1 is full until the end, with so many offers accepted.
+fn late(profile: u32, accepted: u64) -> State {
     let time = TIME_END - 1_000;
     let packet = Packet {
         id: 5,
@@ -19,7 +21,7 @@ fn late(profile: u32) -> State {
     let mut state = State::fresh(profile, u32::MAX - 10);
     state.time = time;
     state.queues[1] = Queue::of(&[packet; 5]);
-    state
+    state.with_accepted(accepted)
 }
 
 /// Holds a call to a refusal, with the state as it was; 0 stands for none.
@@ -45,16 +47,21 @@ const STEPS: [(u32, u32); 5] = [
     (1 << 31, 2),
 ];
 
-/// A state, and one that is not sound, with the stamps of the steps from it.
+/// A state, and two that are not sound, with the stamps of the steps from it.
 fn each_place(mut hold: impl FnMut(u32, &sys::State, u32, u32)) {
     for profile in PROFILES {
-        let state = raw(&late(profile));
-        let mut unsound = state;
-        unsound.control.level = 5;
-        for (step, number) in STEPS {
-            let stamp = state.clock.stamp.wrapping_add(step);
-            hold(profile, &state, stamp, number);
-            hold(profile, &unsound, stamp, 9);
+        for accepted in [5, ACCEPTED_MOST - 1, ACCEPTED_MOST] {
+            let state = raw(&late(profile, accepted));
+            let mut unsound = state;
+            unsound.control.level = 5;
+            let mut miscounted = state;
+            miscounted.counts.sent += 1;
+            for (step, number) in STEPS {
+                let stamp = state.clock.stamp.wrapping_add(step);
+                hold(profile, &state, stamp, number);
+                hold(profile, &unsound, stamp, 9);
+                hold(profile, &miscounted, stamp, 9);
+            }
         }
     }
 }
@@ -69,6 +76,8 @@ fn first(numbers: &[u32]) -> u32 {
 fn offers_are_refused_in_order() {
     each_place(|profile, state, stamp, early| {
         let longest = rules::on_time_max(profile).unwrap();
+        let spent = state.counts.accepted == ACCEPTED_MOST;
+        let eleven = if spent { 11 } else { 0 };
         for (priority, five) in [(0, 0), (1, 0), (3, 0), (4, 5), (u32::MAX, 5)] {
             for (ontime, six) in [
                 (0, 6),
@@ -86,7 +95,8 @@ fn offers_are_refused_in_order() {
                         lifetime,
                         stamp,
                     };
-                    hold_number(state, &call, first(&[early, five, six, seven, eight]));
+                    let numbers = [early, five, six, seven, eight, eleven];
+                    hold_number(state, &call, first(&numbers));
                 }
             }
         }
@@ -132,8 +142,8 @@ fn polls_are_refused_in_order() {
     each_place(|_, state, stamp, early| hold_number(state, &Call::Poll { stamp }, early));
 }
 
-/// Five wait, and the first expires at one moment: full one µs before it, room from it on. A refused offer
-/// removes nothing.
+/// Five wait, and the first expires at one moment: full one µs before it, room from it on, unless the offers are
+/// spent. A refused offer removes nothing.
 #[test]
 fn full_until_one_expires() {
     for profile in PROFILES {
@@ -151,15 +161,18 @@ fn full_until_one_expires() {
             lifetime: 1,
             ..packet
         }]);
-        for (stamp, number) in [(0, 8), (59_999, 8), (60_000, 0)] {
-            let call = Call::Offer {
-                id: 6,
-                priority: 2,
-                ontime: 1,
-                lifetime: 1,
-                stamp,
-            };
-            hold_number(&raw(&state), &call, number);
+        for (accepted, eleven) in [(6, 0), (ACCEPTED_MOST - 1, 0), (ACCEPTED_MOST, 11)] {
+            let state = raw(&state.with_accepted(accepted));
+            for (stamp, number) in [(0, 8), (59_999, 8), (60_000, eleven)] {
+                let call = Call::Offer {
+                    id: 6,
+                    priority: 2,
+                    ontime: 1,
+                    lifetime: 1,
+                    stamp,
+                };
+                hold_number(&state, &call, number);
+            }
         }
     }
 }

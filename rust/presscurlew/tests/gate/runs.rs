@@ -3,8 +3,8 @@
 use std::fmt;
 
 use crate::help::{
-    edge_or, hold, random_words, raw, raw_reply, Answer, Call, EDGE_COUNTS, EDGE_LIFETIMES,
-    EDGE_ONTIMES, EDGE_PRIORITIES, EDGE_STEPS, PROFILES, TIME_END,
+    edge_or, hold, random_words, raw, raw_reply, Answer, Call, ACCEPTED_MOST, EDGE_COUNTS,
+    EDGE_LIFETIMES, EDGE_ONTIMES, EDGE_PRIORITIES, EDGE_STEPS, PROFILES, TIME_END,
 };
 use presscurlew::sys;
 use reference::book::Book;
@@ -162,7 +162,7 @@ struct Tally {
     sent: u64,
     idle: u64,
     closed: u64,
-    refused: [u64; 10],
+    refused: [u64; 12],
 }
 
 impl Tally {
@@ -233,7 +233,8 @@ fn run(profile: u32, style: Style, seed: u64, calls: u64, tally: &mut Tally) {
         let asked = caller.call(&state);
         let (next, answer) = hold(&state, &asked, &place);
         let fed = book.feed(&asked, &answer);
-        assert_eq!(fed, Ok(()), "{place}: {asked:?} on {state:?}");
+        let counted = fed.and_then(|()| book.compare(&next.counts));
+        assert_eq!(counted, Ok(()), "{place}: {asked:?} on {state:?}");
         tally.count(&answer);
         state = next;
     }
@@ -256,7 +257,7 @@ fn runs(profile: u32) {
         numbers.iter().all(|&number| tally.refused[number] > 1_000),
         "{tally:?}"
     );
-    assert_eq!(tally.refused[9], 0);
+    assert_eq!((tally.refused[9], tally.refused[11]), (0, 0));
 }
 
 #[test]
@@ -272,6 +273,38 @@ fn runs_of_profile_2() {
 #[test]
 fn runs_of_profile_3() {
     runs(3);
+}
+
+/// Runs from states that are fresh but for their counts, with so many offers left: then offers are refused, and
+/// all else goes on.
+#[test]
+fn runs_that_spend_their_offers() {
+    for profile in PROFILES {
+        for (style, left) in STYLES.into_iter().zip([0, 1, 2, 50, 500, 1_000]) {
+            let seed = 0x59e4_0000 + u64::from(profile) * 0x1000 + left;
+            let mut place = Place {
+                seed,
+                profile,
+                style,
+                call: 0,
+            };
+            let mut caller = Caller {
+                rng: Rng::new(seed),
+                style,
+            };
+            let mut tally = Tally::default();
+            let mut state = made(profile, 7).with_accepted(ACCEPTED_MOST - left);
+            for call in 0..20_000 {
+                place.call = call;
+                let asked = caller.call(&state);
+                let (next, answer) = hold(&state, &asked, &place);
+                tally.count(&answer);
+                state = next;
+            }
+            assert_eq!(state.counts.accepted, ACCEPTED_MOST, "{place}");
+            assert!(tally.refused[11] > 100, "{place}: {tally:?}");
+        }
+    }
 }
 
 /// A make of any profile and stamp: only 1 to 3 are ready, else the all-zero state comes back.
@@ -306,6 +339,7 @@ fn run_to_the_end_of_time() {
             let call = end_call(&mut rng, profile, stamp);
             let (next, answer) = hold(&state, &call, &format!("profile {profile}, to the end"));
             book.feed(&call, &answer).unwrap();
+            book.compare(&next.counts).unwrap();
             ends += u32::from(answer == Answer::Refused(3));
             state = next;
         }

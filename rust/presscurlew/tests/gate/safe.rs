@@ -1,6 +1,8 @@
 //! `Gate` hands on what the archive answers, and keeps the state.
 
-use crate::help::{edge_or, random_words, raw, Answer, Call, EDGE_COUNTS, EDGE_STEPS, PROFILES};
+use crate::help::{
+    edge_or, random_words, raw, raw_counts, Answer, Call, EDGE_COUNTS, EDGE_STEPS, PROFILES,
+};
 use presscurlew::{Gate, Offer, Packet, Refusal};
 use reference::book::Book;
 use reference::gate;
@@ -99,6 +101,11 @@ fn a_gate_says_what_the_reference_says() {
                 "profile {profile}, call {index}: {call:?}"
             );
             book.feed(&call, &answer).unwrap();
+            assert_eq!(
+                gate.counts(),
+                raw_counts(&book.counts()),
+                "profile {profile}, call {index}: {call:?}"
+            );
             state = next;
         }
     }
@@ -124,13 +131,14 @@ fn refusals_have_the_names_and_numbers_of_the_table() {
         (7, "BAD-LIFETIME"),
         (8, "QUEUE-FULL"),
         (9, "NO-STATE"),
+        (11, "SPENT"),
     ];
     for (number, name) in table {
         let refusal = Refusal::from_number(number).unwrap();
         assert_eq!((refusal.number(), refusal.name()), (number, name));
         assert!(refusal.to_string().starts_with(&format!("{name}: ")));
     }
-    for number in [0, 10, 11, u32::MAX] {
+    for number in [0, 10, 12, u32::MAX] {
         assert_eq!(Refusal::from_number(number), None);
     }
 }

@@ -1,7 +1,7 @@
 //! The requirement's own log: make profile 2 at 4294967000, two offers, five polls.
 
 use crate::help::{archive, Call};
-use presscurlew::{sys, Gate, Offer};
+use presscurlew::{sys, Counts, Gate, Offer};
 
 const LOG: [&str; 8] = [
     "READY",
@@ -13,6 +13,13 @@ const LOG: [&str; 8] = [
     "REFUSED 2",
     "IDLE",
 ];
+
+/// Both packets go.
+const COUNTS: Counts = Counts {
+    accepted: 2,
+    sent: 2,
+    expired: 0,
+};
 
 const POLLS: [u32; 5] = [4_294_967_200, 704, 49_904, 49_903, 49_904];
 
@@ -71,6 +78,7 @@ fn by_the_archive() {
         lines.push(line(&turn.reply));
     }
     assert_eq!(lines, LOG);
+    assert_eq!(turn.state.counts, COUNTS);
 }
 
 #[test]
@@ -88,4 +96,5 @@ fn by_the_gate() {
         });
     }
     assert_eq!(lines, LOG);
+    assert_eq!(gate.counts(), COUNTS);
 }

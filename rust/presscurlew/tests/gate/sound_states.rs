@@ -1,7 +1,9 @@
 //! Sound states made field by field. Most are reached by no run: a level in profile 3, a duty in profile 1,
-//! queues of packets that expired long ago, any running time beside any stamp.
+//! queues of packets that expired long ago, any running time beside any stamp, any counts that add up.
 
-use crate::help::{calls_at, edge_or, hold, EDGE_STEPS, PROFILES, TIME_END};
+use crate::help::{
+    calls_at, edge_or, hold, Answer, Call, ACCEPTED_MOST, EDGE_STEPS, PROFILES, TIME_END,
+};
 use reference::rng::Rng;
 use reference::rules;
 use reference::state::{sound, Packet, Queue, State};
@@ -66,7 +68,24 @@ pub fn sound_state(rng: &mut Rng, profile: u32) -> State {
             state.queues[priority as usize] = queue(rng, profile, priority, time);
         }
     }
-    state
+    counted(rng, state)
+}
+
+/// The state with counts that add up, often with few offers left or none.
+fn counted(rng: &mut Rng, state: State) -> State {
+    let most = ACCEPTED_MOST - state.waiting() as u64;
+    let gone = match rng.below(5) {
+        0 => most,
+        1 => most - 1 - rng.below(3),
+        2 => rng.below(3),
+        _ => rng.below(most + 1),
+    };
+    let sent = match rng.below(4) {
+        0 => 0,
+        1 => gone,
+        _ => rng.below(gone + 1),
+    };
+    state.counted(sent, gone - sent)
 }
 
 #[test]
@@ -80,6 +99,55 @@ fn sound_states_are_answered_as_the_reference_answers() {
             let stamp = state.stamp.wrapping_add(rng.pick(&steps));
             for call in calls_at(profile, stamp) {
                 hold(&state, &call, &format_args!("sound state {index}"));
+            }
+        }
+    }
+}
+
+/// The state with counts at their edges, as it is and with nothing admitted.
+fn with_edge_counts(state: State) -> Vec<State> {
+    let unadmitted = State {
+        any: false,
+        at: 0,
+        ontime: 0,
+        ..state
+    };
+    let most = ACCEPTED_MOST - state.waiting() as u64;
+    let mut states = Vec::new();
+    for gone in [0, 1, most - 1, most] {
+        for sent in [0, 1.min(gone), gone] {
+            states.extend([state, unadmitted].map(|state| state.counted(sent, gone - sent)));
+        }
+    }
+    states
+}
+
+/// Of 10^15 offers the last is taken, and none after it.
+#[test]
+fn counts_at_their_edges() {
+    let mut rng = Rng::new(0x50de1);
+    for index in 0..300 {
+        for profile in PROFILES {
+            let mut state = sound_state(&mut rng, profile);
+            state.queues[0] = Queue::default(); // room for an offer
+            for state in with_edge_counts(state) {
+                assert!(sound(&state), "{state:?}");
+                let (stamp, origin) = (state.stamp, format!("edge counts, state {index}"));
+                for call in calls_at(profile, stamp) {
+                    hold(&state, &call, &origin);
+                }
+                let offer = Call::Offer {
+                    id: 9,
+                    priority: 0,
+                    ontime: 1,
+                    lifetime: 1,
+                    stamp,
+                };
+                let due = match state.counts.accepted {
+                    ACCEPTED_MOST => Answer::Refused(11),
+                    _ => Answer::Taken,
+                };
+                assert_eq!(hold(&state, &offer, &origin).1, due, "{state:?}");
             }
         }
     }

@@ -1,11 +1,11 @@
 //! The book checker rejects wrong gates, and its ceiling is every window's.
 
-use crate::help::{Answer, Call};
+use crate::help::{counts, since, Answer, Call};
 use crate::runs::Caller;
 use reference::book::Book;
 use reference::gate;
 use reference::rng::Rng;
-use reference::state::{Packet, State};
+use reference::state::{Counts, Packet, State};
 
 fn offer(id: u32, priority: u32, ontime: u32, lifetime: u32, stamp: u32) -> Call {
     Call::Offer {
@@ -197,6 +197,7 @@ fn a_refused_call_changes_nothing() {
     }
     assert_eq!((after.time(), after.stamp()), (0, 0));
     assert_eq!(after.columns(), before.columns());
+    assert_eq!(after.counts(), counts(1, 0, 0));
 }
 
 #[test]
@@ -204,8 +205,69 @@ fn a_sample_moves_the_books_clock_alone() {
     let mut book = book(&[(offer(1, 0, 9, 60, 0), Answer::Taken)]);
     let call = Call::SampleCount { busy: 0, stamp: 70 };
     book.feed(&call, &Answer::Taken).unwrap();
-    assert_eq!((book.time(), book.stamp(), book.expiries()), (70, 70, 0));
+    assert_eq!((book.time(), book.stamp()), (70, 70));
+    assert_eq!(book.counts(), counts(1, 0, 0));
     assert_eq!(book.columns()[0].len(), 1);
+}
+
+/// Two come, one goes as the other waits, a third expires unseen until a poll.
+#[test]
+fn the_book_counts_what_it_writes_and_strikes() {
+    let mut book = Book::new(0);
+    let first = packet(1, 0, 9, 60_000, 0);
+    let fed = [
+        (offer(1, 0, 9, 60_000, 0), Answer::Taken, counts(1, 0, 0)),
+        (offer(2, 0, 9, 60_000, 0), Answer::Taken, counts(2, 0, 0)),
+        (
+            Call::Poll { stamp: 0 },
+            Answer::Sent(first),
+            counts(2, 1, 0),
+        ),
+        (offer(3, 3, 9, 50, 0), Answer::Taken, counts(3, 1, 0)),
+        (
+            Call::SampleCount { busy: 0, stamp: 50 },
+            Answer::Taken,
+            counts(3, 1, 0),
+        ),
+        (Call::Poll { stamp: 50 }, Answer::Closed(9), counts(3, 1, 1)),
+        (Call::Poll { stamp: 60_000 }, Answer::Idle, counts(3, 1, 2)),
+    ];
+    for (call, answer, counted) in fed {
+        book.feed(&call, &answer).unwrap();
+        assert_eq!(book.counts(), counted, "{call:?}");
+        assert_eq!(book.compare(&counted), Ok(()));
+    }
+}
+
+#[test]
+fn a_states_counts_are_held_to_the_books() {
+    let mut book = book(&[
+        (offer(1, 0, 9, 60_000, 0), Answer::Taken),
+        (offer(2, 0, 9, 50, 0), Answer::Taken),
+        (
+            Call::Poll { stamp: 0 },
+            Answer::Sent(packet(1, 0, 9, 60_000, 0)),
+        ),
+    ]);
+    book.feed(&Call::Poll { stamp: 50 }, &Answer::Idle).unwrap();
+    assert_eq!(book.compare(&counts(2, 1, 1)), Ok(()));
+    let wrong = [
+        (counts(1, 1, 1), "1 accepted, the book 2"),
+        (counts(3, 1, 1), "3 accepted, the book 2"),
+        (counts(2, 0, 1), "0 sent, the book 1"),
+        (counts(2, 2, 1), "2 sent, the book 1"),
+        (counts(2, 1, 0), "0 expired, the book 1"),
+        (counts(2, 1, 2), "2 expired, the book 1"),
+        // These add up, or do so modulo 2^64, and are wrong all the same.
+        (counts(2, 2, 0), "2 sent, the book 1"),
+        (counts(2, 0, 2), "0 sent, the book 1"),
+        (counts(3, 2, 1), "3 accepted, the book 2"),
+        (counts(2, u64::MAX, 3), "sent, the book 1"),
+    ];
+    for (wrong, reason) in wrong {
+        let said = book.compare(&wrong).unwrap_err();
+        assert!(said.contains(reason), "{said}");
+    }
 }
 
 /// The smallest slack over all windows between two admissions, one by one.
@@ -293,6 +355,78 @@ fn changed_answers_in_random_runs_are_rejected() {
             state = next;
         }
         assert!(changed > 5_000);
+    }
+}
+
+/// What a gate that counts wrongly adds at a call, given what is right.
+type Slip = fn(&Call, &Answer, Counts) -> Counts;
+
+const SLIPS: [(&str, Slip); 7] = [
+    ("a refused offer is counted", |call, answer, right| {
+        let refused = matches!(answer, Answer::Refused(_));
+        let offered = matches!(call, Call::Offer { .. });
+        let accepted = right.accepted + u64::from(refused && offered);
+        Counts { accepted, ..right }
+    }),
+    ("a sample is counted", |_, answer, right| {
+        let accepted = u64::from(*answer == Answer::Taken);
+        Counts { accepted, ..right }
+    }),
+    ("a SENT is not counted", |_, _, right| Counts {
+        sent: 0,
+        ..right
+    }),
+    ("an offer counts no expiry", |call, _, right| match call {
+        Call::Offer { .. } => Counts {
+            expired: 0,
+            ..right
+        },
+        _ => right,
+    }),
+    ("IDLE counts no expiry", |_, answer, right| match answer {
+        Answer::Idle => Counts {
+            expired: 0,
+            ..right
+        },
+        _ => right,
+    }),
+    ("CLOSED counts no expiry", |_, answer, right| match answer {
+        Answer::Closed(_) => Counts {
+            expired: 0,
+            ..right
+        },
+        _ => right,
+    }),
+    ("SENT counts no expiry", |_, answer, right| match answer {
+        Answer::Sent(_) => Counts {
+            expired: 0,
+            ..right
+        },
+        _ => right,
+    }),
+];
+
+#[test]
+fn gates_that_count_wrongly_are_rejected() {
+    for (slip, added) in SLIPS {
+        let (mut state, _) = gate::make(1, 0);
+        let mut book = Book::new(0);
+        let mut caller = Caller::new(1, 60);
+        let mut wrong = Counts::default();
+        let rejected = (0..20_000).any(|_| {
+            let call = caller.call(state.stamp);
+            let (next, answer) = gate::call(state, &call);
+            book.feed(&call, &answer).unwrap();
+            book.compare(&next.counts).unwrap();
+            let more = added(&call, &answer, since(state.counts, next.counts));
+            wrong.accepted += more.accepted;
+            wrong.sent += more.sent;
+            wrong.expired += more.expired;
+            caller.heard(&answer);
+            state = next;
+            book.compare(&wrong).is_err()
+        });
+        assert!(rejected, "{slip}");
     }
 }
 

@@ -2,12 +2,33 @@
 
 use reference::gate;
 use reference::rules;
-use reference::state::{Packet, Queue, State};
+use reference::state::{Counts, Packet, Queue, State};
 
 pub use reference::gate::{Answer, Call};
 
 /// The three profiles.
 pub const PROFILES: [u32; 3] = [1, 2, 3];
+
+/// The most offers that a state accepts.
+pub const ACCEPTED_MOST: u64 = 1_000_000_000_000_000;
+
+/// Counts, in their order.
+pub fn counts(accepted: u64, sent: u64, expired: u64) -> Counts {
+    Counts {
+        accepted,
+        sent,
+        expired,
+    }
+}
+
+/// What was counted from one state's counts to another's.
+pub fn since(start: Counts, now: Counts) -> Counts {
+    counts(
+        now.accepted - start.accepted,
+        now.sent - start.sent,
+        now.expired - start.expired,
+    )
+}
 
 /// A fresh state at stamp 0.
 pub fn fresh(profile: u32) -> State {
@@ -45,7 +66,7 @@ pub fn late(profile: u32, lengths: [usize; 4]) -> State {
             .collect();
         state.queues[priority] = Queue::of(&waiting);
     }
-    state
+    state.counted(700, 40)
 }
 
 /// Sixteen words with the first `busy` probes busy.

@@ -3,7 +3,7 @@
 use std::io::{self, Read, Write};
 use std::process::{Command, Stdio};
 
-use crate::help::Answer;
+use crate::help::{counts, Answer, ACCEPTED_MOST};
 use reference::log::{line, replay, step, Record};
 use reference::rng::Rng;
 use reference::state::{Packet, State};
@@ -276,6 +276,20 @@ fn lines_of_answers() {
     assert_eq!(line(&Answer::Idle), "IDLE");
     assert_eq!(line(&Answer::Closed(1_000_000)), "CLOSED 1000000");
     assert_eq!(line(&Answer::Refused(10)), "REFUSED 10");
+    assert_eq!(line(&Answer::Refused(11)), "REFUSED 11");
+}
+
+/// No log is long enough to spend its offers, so the state is made by hand.
+#[test]
+fn an_offer_record_may_meet_spent() {
+    let (state, _) = step(State::default(), &make(1, 0));
+    let state = state.with_accepted(ACCEPTED_MOST);
+    let refused = step(state, &offer(1, 0, 1, 1, 5));
+    assert_eq!(refused, (state, Answer::Refused(11)));
+    // A make gives a fresh state, whose counts are 0.
+    let (fresh, answer) = step(state, &make(1, 5));
+    assert_eq!((fresh.counts, answer), (counts(0, 0, 0), Answer::Ready));
+    assert_eq!(step(fresh, &offer(1, 0, 1, 1, 5)).1, Answer::Taken);
 }
 
 #[test]

@@ -4,6 +4,7 @@ mod bench;
 mod book_checks;
 mod ccalls;
 mod clock;
+mod counts;
 mod help;
 mod log_program;
 mod queues;

@@ -1,7 +1,9 @@
 //! "A state is sound if": each rule broken alone, and odd states that are sound.
 
-use crate::help::{assert_refused, fresh, late, Answer, PROFILES};
+use crate::help::{assert_refused, fresh, late, Answer, ACCEPTED_MOST, PROFILES};
 use reference::gate;
+use reference::miscounts::{one_off, wrapping};
+use reference::rng::Rng;
 use reference::state::{broken_rules, rule_names, sound, Packet, State};
 
 /// The lengths tried; each queue is tried at 0 to 5.
@@ -259,7 +261,13 @@ fn queue_length_above_5() {
             for len in [6, 7, 256, (1 << 32) + 2, 1 << 63, u64::MAX] {
                 let mut state = start;
                 state.queues[q].len = len;
-                breaks_only(&state, "queue length at most 5");
+                // Counts that add up without that queue, of which nothing is read.
+                let read = state.counted(start.counts.sent, start.counts.expired);
+                breaks_only(&read, "queue length at most 5");
+                // And such as would add up if so many packets were there.
+                let more = len - start.queues[q].len;
+                state.counts.accepted = start.counts.accepted.wrapping_add(more);
+                all_calls_refuse(&state);
             }
         }
     }
@@ -273,6 +281,8 @@ fn queue_length_that_is_not_the_packets() {
             for len in (0..=5).filter(|&len| len != length) {
                 let mut state = start;
                 state.queues[q].len = len;
+                all_calls_refuse(&state);
+                let state = state.counted(start.counts.sent, start.counts.expired);
                 all_calls_refuse(&state);
                 if len < length {
                     breaks_only(&state, "slots past the length zero");
@@ -367,6 +377,60 @@ fn unused_slots_not_zero() {
 }
 
 #[test]
+fn counts_one_off() {
+    for start in starts() {
+        for counts in one_off(&start) {
+            breaks_only(&State { counts, ..start }, "counts add up");
+        }
+    }
+}
+
+#[test]
+fn counts_that_add_up_only_by_wrapping() {
+    let mut rng = Rng::new(201);
+    for start in starts() {
+        let waiting = start.waiting() as u64;
+        for counts in wrapping(&start, &mut rng) {
+            let sum = counts.sent.wrapping_add(counts.expired);
+            assert_eq!(counts.accepted, sum.wrapping_add(waiting), "seed 201");
+            breaks_only(&State { counts, ..start }, "counts add up");
+        }
+    }
+}
+
+#[test]
+fn accepted_above_10_to_15() {
+    for start in starts() {
+        for most in [ACCEPTED_MOST, ACCEPTED_MOST - 1] {
+            is_sound(&start.with_accepted(most));
+        }
+        for more in [ACCEPTED_MOST + 1, 1 << 63, u64::MAX] {
+            // With a true sum, and without.
+            breaks_only(&start.with_accepted(more), "accepted at most 10^15");
+            let mut state = start;
+            state.counts.accepted = more;
+            all_calls_refuse(&state);
+        }
+    }
+}
+
+#[test]
+fn any_counts_that_add_up_are_sound() {
+    let mut rng = Rng::new(202);
+    for start in starts() {
+        let most = ACCEPTED_MOST - start.waiting() as u64;
+        for _ in 0..100 {
+            let gone = rng.below(most + 1);
+            let sent = rng.below(gone + 1);
+            is_sound(&start.counted(sent, gone - sent));
+        }
+        for (sent, expired) in [(0, 0), (0, 1), (1, 0), (most, 0), (0, most)] {
+            is_sound(&start.counted(sent, expired));
+        }
+    }
+}
+
+#[test]
 fn odd_but_sound() {
     for profile in [1, 2] {
         let odd = State {
@@ -380,6 +444,9 @@ fn odd_but_sound() {
         is_sound(&State { level, ..fresh(3) });
     }
     for profile in PROFILES {
+        // Packets were sent, and nothing was admitted; or the other way round.
+        is_sound(&fresh(profile).counted(1, 0));
+        is_sound(&late(profile, [0; 4]).counted(0, 0));
         // Expired packets still wait, as a sample leaves them.
         let mut state = late(profile, [5, 5, 5, 5]);
         state.time += 60_000_000;
@@ -415,6 +482,7 @@ fn several_rules_at_once_are_all_named() {
     state.queues[0].slots[0].arrival = 1;
     state.queues[1].len = u64::MAX;
     state.queues[2].slots[0].id = 1;
+    state.counts.accepted = u64::MAX;
     let broken = broken_rules(&state);
     let unbroken = [
         "sample kept only in profile 3",
