@@ -165,7 +165,7 @@ enum presscurlew_kind {
 /* The answer to a call. What its kind does not use is 0. */
 typedef struct presscurlew_reply {
     presscurlew_packet packet; /* SENT: the whole packet */
-    uint64_t number;           /* CLOSED: the us left, 1 to 1,000,000; REFUSED: the refusal, 1 to 9 or 11 */
+    uint64_t number;           /* CLOSED: the us left, 1 to 1,001,000; REFUSED: the refusal, 1 to 9 or 11 */
     uint32_t kind;             /* an enum presscurlew_kind */
 } presscurlew_reply;
 
@@ -218,10 +218,16 @@ presscurlew_turn presscurlew_offer(presscurlew_state state, uint32_t id, uint32_
 
 /*
  * Whether a packet may go, and which. The clock moves, and every expired packet of all queues is removed and
- * counted. Then: IDLE if nothing waits; else CLOSED if less than the wait has passed since the last admission;
- * else SENT, with the oldest packet of the lowest-numbered queue that has one, which is counted as sent.
+ * counted. Then: IDLE if nothing waits; else CLOSED, with the us left, if the wait after the last admission is
+ * not over; else SENT, with the oldest packet of the lowest-numbered queue that has one, which is counted as sent.
  * presscurlew_wait, below, says what the wait is; it is taken afresh at each poll, with the level or duty of
- * that moment.
+ * that moment. It starts
+ *   profiles 1 and 2   when the transmitter stops: the on-time of the packet admitted last after its admission
+ *   profile 3          at the admission
+ * so a poll that finds a packet sends it if the last admission is this long ago, or longer:
+ *   profile 1          1,001,000 us
+ *   profile 2          1,000,500 us
+ *   profile 3          1,000,000 us
  *
  * Refusals: NO_STATE, CLOCK_BACK, CLOCK_END.
  */
@@ -294,9 +300,11 @@ presscurlew_level_answer presscurlew_level_step(uint32_t profile, uint32_t load,
 presscurlew_duty_answer presscurlew_duty_update(uint32_t duty, uint32_t smoothed, uint32_t kept, uint32_t new_load);
 
 /*
- * The shortest time from an admission to the next one, in microseconds. `ontime` is that of the packet
- * admitted last. Level, duty and on-time are judged in every profile, also where it does not use them;
- * pass 0 as level in profile 3, and 600,000 as duty in profiles 1 and 2.
+ * The wait before the next admission, in microseconds. `ontime` is that of the packet admitted last. In
+ * profiles 1 and 2 the wait runs from that packet's end, `ontime` after its admission, and the on-time is no
+ * part of the number; in profile 3 it runs from the admission, start to start. Level, duty and on-time are
+ * judged in every profile, also where it does not use them; pass 0 as level in profile 3, and 600,000 as
+ * duty in profiles 1 and 2.
  *
  *   level        0        1        2        3        4
  *   profile 1    100,000  200,000  400,000  500,000  1,000,000

@@ -3,7 +3,7 @@ use Prim.Native.Nat.{ℕ, _+_, _-_}
 use mathlib.Core.{Bool.Bool, Bool.cond, Bool._&&_, List.List, List.[], List._∷_, List._++_}
 use lib.Dec.{ltb, eqb}
 use Rattle.rules.specs.{Profiles.profile3, Profiles.isReactive, Profiles.reactiveOf, Clock.stepOf, Samples.probes, Samples.busyOf, Samples.loadOf}
-use Rattle.rules.specs.{Levels.wantedBy, Levels.towards, Duty.smoothedOf, Duty.dutyOf, Wait.waitOf}
+use Rattle.rules.specs.{Levels.wantedBy, Levels.towards, Duty.smoothedOf, Duty.dutyOf, Wait.waitOf, Wait.startOf}
 use Rattle.model.specs.declared.{Packet.Packet, Clock.Clock, Control.Control, Answer.the-variants.Taken, Answer.the-variants.Sent, Answer.the-variants.Idle, Answer.the-variants.Closed}
 use Rattle.model.specs.State.{Four, four, each, change, waitingIn, View, viewFrom, countsFrom, controlFrom, Call, words, count, offer, poll, Outcome, gives, packetFrom}
 
@@ -71,11 +71,14 @@ choice q = choiceOf (q .c0) (q .c1) (q .c2) (q .c3)
 abbrev pub waitNow : View → ℕ  -- "taken afresh at each poll", with the on-time of the last admitted packet
 waitNow v = waitOf (v .control .profile) (v .control .level) (v .control .duty) (v .last .ontime)
 
+abbrev pub closedFor : View → ℕ  -- W-202: "the wait now runs from admission plus that packet's on-time", where the profile says so
+closedFor v = startOf (v .control .profile) (v .last .ontime) + waitNow v
+
 abbrev pub sinceLast : View → ℕ
 sinceLast v = v .clock .time - v .last .at
 
 unfoldable pub closed : View → Bool  -- "if something was admitted and less than the wait has passed since that admission"
-closed v = eqb (v .last .any) 1 && ltb (sinceLast v) (waitNow v)
+closed v = eqb (v .last .any) 1 && ltb (sinceLast v) (closedFor v)
 
 abbrev pub admitted : View → Packet → Four Packet → View  -- "leaves its queue and is recorded as the last admission"
 admitted v p left =
@@ -84,7 +87,7 @@ admitted v p left =
 
 abbrev pub polled : View → Choice → Outcome  -- "A poll answers": IDLE, else CLOSED with the µs left, else SENT
 polled v nothing = gives v Idle
-polled v (chosen p left) = cond (closed v) (gives v (Closed (waitNow v - sinceLast v))) (gives (admitted v p left) (Sent p))
+polled v (chosen p left) = cond (closed v) (gives v (Closed (closedFor v - sinceLast v))) (gives (admitted v p left) (Sent p))
 
 unfoldable pub effect : View → Call → Outcome
 effect v (words stamp ws) = gives (sampledBy v stamp (busyOf ws probes)) Taken

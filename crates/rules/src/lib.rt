@@ -7,11 +7,13 @@ ghost use Rattle.rules.specs.Clock.{stepOf, goesBack, passesEnd};
 ghost use Rattle.rules.specs.Samples.{busyOf, sampleOf, badCount, loadOf};
 ghost use Rattle.rules.specs.Levels.{wantedBy, towards, waitBy};
 ghost use Rattle.rules.specs.Duty.{held, smoothedOf, dutyOf};
-ghost use Rattle.rules.specs.Wait.{adaptiveWait, waitOf};
+ghost use Rattle.rules.specs.Wait.{adaptiveWait, waitOf, startOf};
 
-// A reactive profile's constants: the longest on-time, the greatest load of levels 0 to 3, the wait of levels 0 to 4.
+// A reactive profile's constants: the longest on-time, 1 if the wait runs from the end of a transmission (0: from its
+// start), the greatest load of levels 0 to 3, the wait of levels 0 to 4.
 pub struct Reactive {
     pub ontime: u32,
+    pub fromend: u32,
     pub last0: u32,
     pub last1: u32,
     pub last2: u32,
@@ -23,9 +25,10 @@ pub struct Reactive {
     pub wait4: u32,
 }
 
-// An adaptive profile's constants: the longest on-time, and the limits of offset, duty and wait.
+// An adaptive profile's constants: the longest on-time, where the wait runs from, and the limits of offset, duty and wait.
 pub struct Adaptive {
     pub ontime: u32,
+    pub fromend: u32,
     pub target: u32,
     pub mostup: u32,
     pub mostdown: u32,
@@ -55,6 +58,8 @@ pub struct Profile1 {}
 impl Profile1 {
     pub const ONTIME: u32 = 1000;
 
+    pub const FROM_END: u32 = 1;
+
     pub const LAST0: u32 = 299999;
 
     pub const LAST1: u32 = 399999;
@@ -78,6 +83,7 @@ impl Profile1 {
     {
         Reactive {
             ontime: Self::ONTIME,
+            fromend: Self::FROM_END,
             last0: Self::LAST0,
             last1: Self::LAST1,
             last2: Self::LAST2,
@@ -96,6 +102,8 @@ pub struct Profile2 {}
 
 impl Profile2 {
     pub const ONTIME: u32 = 500;
+
+    pub const FROM_END: u32 = 1;
 
     pub const LAST0: u32 = 299999;
 
@@ -120,6 +128,7 @@ impl Profile2 {
     {
         Reactive {
             ontime: Self::ONTIME,
+            fromend: Self::FROM_END,
             last0: Self::LAST0,
             last1: Self::LAST1,
             last2: Self::LAST2,
@@ -138,6 +147,8 @@ pub struct Profile3 {}
 
 impl Profile3 {
     pub const ONTIME: u32 = 4000;
+
+    pub const FROM_END: u32 = 0;
 
     pub const TARGET: u32 = 680000;
 
@@ -158,6 +169,7 @@ impl Profile3 {
     {
         Adaptive {
             ontime: Self::ONTIME,
+            fromend: Self::FROM_END,
             target: Self::TARGET,
             mostup: Self::MOST_UP,
             mostdown: Self::MOST_DOWN,
@@ -404,5 +416,17 @@ pub fn wait(profile: u32, level: u32, duty: u32, ontime: u32) -> u32
         1 => Profile1::constants().wait(level),
         2 => Profile2::constants().wait(level),
         _ => adaptive_wait(ontime, duty),
+    }
+}
+
+// How long after an admission its wait starts: its on-time, where the profile's wait runs from the end.
+pub fn wait_start(profile: u32, ontime: u32) -> u32
+    requires { ⌜ ontime ≤ 4000 ⌝ }
+    ensures { λ r. ⌜ r ≡ startOf profile ontime ⌝ }
+{
+    match profile {
+        1 => Profile1::FROM_END * ontime,
+        2 => Profile2::FROM_END * ontime,
+        _ => Profile3::FROM_END * ontime,
     }
 }

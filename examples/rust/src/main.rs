@@ -135,7 +135,7 @@ impl Host {
     fn poll(&mut self) -> Result<(), Refusal> {
         match self.gate.poll(self.now)? {
             Answer::Sent(packet) => self.transmit(packet),
-            // A wait is at most 1 s, so it fits.
+            // The gate is closed for at most 1,001,000 µs, so it fits.
             Answer::Closed { micros } => self.quiet_until = self.now.wrapping_add(micros as u32),
             Answer::Idle => {}
         }

@@ -226,13 +226,14 @@ impl State {
         }
     }
 
-    fn wait(&self) -> u64 {
+    /// How long the gate is closed after the last admission: in profiles 1 and 2 the wait starts when that packet ends.
+    fn closed_for(&self) -> u64 {
         const WAITS: [[u64; 5]; 2] = [
             [100_000, 200_000, 400_000, 500_000, 1_000_000],
             [50_000, 100_000, 200_000, 250_000, 1_000_000],
         ];
         if self.profile < 3 {
-            return WAITS[self.profile as usize - 1][self.level as usize];
+            return self.ontime as u64 + WAITS[self.profile as usize - 1][self.level as usize];
         }
         let spread = self.ontime as u64 * 1_000_000_000;
         spread.div_ceil(self.duty as u64).clamp(25_000, 1_000_000)
@@ -297,9 +298,9 @@ impl State {
             return Answer::Idle;
         };
         if self.any == 1 {
-            let (wait, passed) = (self.wait(), now - self.at);
-            if passed < wait {
-                return Answer::Closed(wait - passed);
+            let (closed, passed) = (self.closed_for(), now - self.at);
+            if passed < closed {
+                return Answer::Closed(closed - passed);
             }
         }
         let p = self.queues[k].pop();

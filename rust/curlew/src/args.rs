@@ -54,10 +54,11 @@ curlew show [--from N] [--first N] --plain LOG: a log in the plain form
 
 A line a record: its number, the run's time in seconds, the call, the answer, how many packets
 were accepted, sent and expired so far, how many wait in the queue of each priority, and the
-level (profiles 1 and 2) or the duty (profile 3) with the wait between two packets that it asks
-for. Packets are counted from calls and answers alone, an expired one when it is removed: at
-the first offer or poll that finds it expired. Without ANSWERS, the answers are those of the
-second program. A line starts with ! where an answer is wrong, and the reason stands below it.
+level (profiles 1 and 2) or the duty (profile 3) with the wait that it asks for: after the end
+of a packet (profiles 1 and 2) or from its start on (profile 3). Packets are counted from calls
+and answers alone, an expired one when it is removed: at the first offer or poll that finds it
+expired. Without ANSWERS, the answers are those of the second program. A line starts with !
+where an answer is wrong, and the reason stands below it.
 
   --from N     start at record N
   --first N    show N lines
@@ -74,10 +75,11 @@ calls and the answers alone, and says of each run:
   Counts     accepted = sent + expired + waiting at every record, and each of the three is
              what the second program's state has counted
   Ceiling    in any window of W µs, 100 x air time is at most 3 W + 400,000
-  Floor      a poll that finds a packet 1 s or more after the last admission sends
+  Floor      a poll that finds a packet 1.001 s (profile 1), 1.0005 s (profile 2) or 1 s
+             (profile 3) or more after the last admission sends
   Turn       of each priority in order; one of priority 0 sees no more go than came before it
   Delivery   one of priority 0 with k before it and polls at most p apart goes in time:
-             no later than (k + 1) x (1 s + p) after it came, if it lives longer than that
+             no later than (k + 1) x (floor + p) after it came, if it lives longer than that
   Answers    each is what the second program answers
 
 with the nearest that the run came to its limit. ANSWERS must fit the log: a line a record,

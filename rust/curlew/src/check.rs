@@ -2,7 +2,6 @@
 
 use std::io::{self, BufWriter, StdoutLock, Write};
 
-use reference::book::FLOOR;
 use reference::state::Counts;
 
 use crate::args::CheckWish;
@@ -176,7 +175,7 @@ fn floor(run: &Run, lines: &mut Vec<(&'static str, String)>) {
         Some(latest) => format!(
             "KEPT. Latest CLOSED: {} after an admission; from {} on a poll sends.",
             span(latest),
-            span(FLOOR)
+            span(run.book.floor())
         ),
         None => "KEPT. No poll found the gate closed.".to_string(),
     };
@@ -221,10 +220,11 @@ fn turn(run: &Run, lines: &mut Vec<(&'static str, String)>) {
 /// The wait that came nearest to its bound.
 fn nearest(wait: &Wait) -> String {
     format!(
-        "Closest call: packet {} went after {}; the label says at most {} x (1 s + {}) = {}.",
+        "Closest call: packet {} went after {}; the label says at most {} x ({} + {}) = {}.",
         wait.id,
         span(wait.waited),
         wait.before + 1,
+        span(wait.floor),
         span(wait.apart),
         span(wait.bound())
     )

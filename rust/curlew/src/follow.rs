@@ -193,7 +193,7 @@ impl Run {
             profile: u32::from(make.priority),
             first,
             last: first,
-            book: Book::new(make.stamp),
+            book: Book::new(u32::from(make.priority), make.stamp),
             watch: Watch::default(),
             wrong: None,
         }

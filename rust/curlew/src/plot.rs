@@ -2,7 +2,6 @@
 
 use std::collections::VecDeque;
 
-use reference::book::FLOOR;
 use reference::rules;
 
 use crate::fault::Fault;
@@ -88,6 +87,7 @@ struct Found {
     time: u64,
     samples: u64,
     facts: String,
+    floor: u64,
     hold: u64,
     wrong: Option<String>,
 }
@@ -104,6 +104,7 @@ impl Hearer for Survey {
                 time: run.book.time(),
                 samples: run.watch.samples,
                 facts: facts(run),
+                floor: run.book.floor(),
                 hold: run.watch.longest_hold.map_or(0, |(hold, _)| hold),
                 wrong: run.wrong.clone(),
             });
@@ -196,6 +197,7 @@ struct Drawing {
     to: u64,
     entered: bool,
     dotted: bool,
+    floor: u64,
     since_most: f64,
     load: Trace,
     smoothed: Trace,
@@ -226,6 +228,7 @@ impl Drawing {
             to,
             entered: from == 0,
             dotted: found.samples as f64 * part <= DOTS,
+            floor: found.floor,
             since_most: (found.hold as f64 / 1e6).clamp(1.25, 3.0),
             load: Trace::default(),
             smoothed: Trace::default(),
@@ -619,7 +622,7 @@ impl Drawing {
             "Time since the last packet went (s); dark while others wait",
         );
         scale(svg, SINCE, self.since_most, &[0.0, 0.5, 1.0], 1);
-        let y = height(SINCE, FLOOR as f64 / 1e6, self.since_most);
+        let y = height(SINCE, self.floor as f64 / 1e6, self.since_most);
         svg.line((LEFT, y), (RIGHT, y), "limit");
         limit_name(
             svg,

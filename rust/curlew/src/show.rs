@@ -224,7 +224,7 @@ fn answer(said: Said) -> String {
     }
 }
 
-/// The level or the duty, and the wait that it asks for after an admission.
+/// The level or the duty, and the wait that it asks for.
 fn control(state: &State) -> String {
     if !state.live {
         return "no gate".to_string();

@@ -2,7 +2,7 @@
 
 use std::collections::VecDeque;
 
-use reference::book::{Book, Entry, CEILING_BASE, CEILING_SLOPE, FLOOR};
+use reference::book::{Book, Entry, CEILING_BASE, CEILING_SLOPE};
 use reference::gate::Call;
 use reference::state::Packet;
 
@@ -47,12 +47,14 @@ pub struct Wait {
     pub waited: u64,
     /// The longest time without a poll while it waited.
     pub apart: u64,
+    /// The floor of the run's profile.
+    pub floor: u64,
 }
 
 impl Wait {
     /// The longest that it may wait: (k + 1) × (quiet + p).
     pub fn bound(&self) -> u64 {
-        (self.before + 1) * (FLOOR + self.apart)
+        (self.before + 1) * (self.floor + self.apart)
     }
 }
 
@@ -216,10 +218,10 @@ impl Watch {
                 self.zero.push_back(packet);
             } else if sent.take_if(|sent| *sent == packet.entry.packet).is_some() {
                 self.zero_sent += 1;
-                self.waited(packet.wait(now));
+                self.waited(packet.wait(now, book.floor()));
             } else {
                 self.zero_expired += 1;
-                packet.had_too_little(now)?;
+                packet.had_too_little(now, book.floor())?;
             }
         }
         for entry in left {
@@ -244,18 +246,19 @@ impl Watch {
 }
 
 impl Followed {
-    fn wait(&self, now: u64) -> Wait {
+    fn wait(&self, now: u64, floor: u64) -> Wait {
         Wait {
             id: self.entry.packet.id,
             before: self.entry.above,
             waited: now - self.entry.packet.arrival,
             apart: self.apart,
+            floor,
         }
     }
 
     /// An expired packet had a lifetime of at most its bound.
-    fn had_too_little(&self, now: u64) -> Result<(), String> {
-        let wait = self.wait(now);
+    fn had_too_little(&self, now: u64, floor: u64) -> Result<(), String> {
+        let wait = self.wait(now, floor);
         let lifetime = u64::from(self.entry.packet.lifetime);
         if lifetime <= wait.bound() {
             return Ok(());
@@ -290,16 +293,23 @@ mod tests {
             },
             apart,
         };
-        let bound = |above: u64, apart: u64| followed(1, above, apart).wait(0).bound();
-        assert_eq!(bound(0, 50_000), 1_050_000);
-        assert_eq!(bound(2, 30_000), 3_090_000);
-        let lived = |lifetime: u32| followed(lifetime, 2, 30_000).had_too_little(9_000_000);
-        assert_eq!(lived(3_090_000), Ok(()));
-        let said = lived(3_090_001).unwrap_err();
-        assert!(
-            said.starts_with("delivery: packet 0 of priority 0 expired"),
-            "{said}"
-        );
+        for (profile, one, three) in [
+            (1, 1_051_000, 3_093_000),
+            (2, 1_050_500, 3_091_500),
+            (3, 1_050_000, 3_090_000),
+        ] {
+            let floor = Book::new(profile, 0).floor();
+            let bound = |above, apart| followed(1, above, apart).wait(0, floor).bound();
+            assert_eq!(bound(0, 50_000), one);
+            assert_eq!(bound(2, 30_000), u64::from(three));
+            let lived = |lifetime| followed(lifetime, 2, 30_000).had_too_little(9_000_000, floor);
+            assert_eq!(lived(three), Ok(()));
+            let said = lived(three + 1).unwrap_err();
+            assert!(
+                said.starts_with("delivery: packet 0 of priority 0 expired"),
+                "{said}"
+            );
+        }
     }
 
     #[test]

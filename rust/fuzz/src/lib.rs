@@ -131,7 +131,11 @@ impl Input<'_> {
     }
 
     fn call(&mut self, last: u32) -> Call {
-        let step = self.of(&EDGE_STEPS) ^ self.of(&[0, 50_000, 60_000, 100_000, 1_000_000]);
+        // Waits, and those after the longest on-time.
+        let turns = [
+            0, 50_000, 50_500, 60_000, 100_000, 101_000, 1_000_000, 1_000_500, 1_001_000,
+        ];
+        let step = self.of(&EDGE_STEPS) ^ self.of(&turns);
         let stamp = last.wrapping_add(step);
         match self.byte() % 4 {
             0 => Call::SampleWords {

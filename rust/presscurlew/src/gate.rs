@@ -10,13 +10,17 @@
 //!
 //! let Answer::Sent(packet) = gate.poll(4_294_967_200)? else { panic!() };
 //! assert_eq!(packet.id, 8);
-//! assert_eq!(gate.poll(704)?, Answer::Closed { micros: 49_200 });
-//! let Answer::Sent(packet) = gate.poll(49_904)? else { panic!() };
-//! assert_eq!(packet.id, 7);
+//! // It is on air for 400 µs, and then the wait starts: 50,000 µs at level 0.
+//! assert_eq!(gate.poll(704)?, Answer::Closed { micros: 49_600 });
+//! assert_eq!(gate.poll(49_904)?, Answer::Closed { micros: 400 });
 //!
 //! // A clock that goes back is refused, and the gate stays as it was.
 //! assert_eq!(gate.poll(49_903), Err(Refusal::ClockBack));
-//! assert_eq!(gate.poll(49_904)?, Answer::Idle);
+//! assert_eq!(gate.poll(49_904)?, Answer::Closed { micros: 400 });
+//!
+//! let Answer::Sent(packet) = gate.poll(50_304)? else { panic!() };
+//! assert_eq!(packet.id, 7);
+//! assert_eq!(gate.poll(50_304)?, Answer::Idle);
 //!
 //! let counts = gate.counts();
 //! assert_eq!((counts.accepted, counts.sent, counts.expired), (2, 2, 0));
@@ -65,7 +69,8 @@ pub enum Answer {
     Idle,
     /// The gate is closed.
     Closed {
-        /// The µs left until it opens, unless a sample changes the wait.
+        /// The µs left until it opens, unless a sample changes the wait: at most 1,001,000 in profile 1,
+        /// 1,000,500 in profile 2 and 1,000,000 in profile 3.
         micros: u64,
     },
 }
@@ -241,6 +246,9 @@ impl Gate {
     }
 
     /// Whether a packet may go, and which: the oldest of the lowest-numbered queue that has one.
+    ///
+    /// After an admission the gate is closed until the wait ([`crate::rules::wait`]) is over. In profiles 1 and 2 the
+    /// wait starts when the packet is off the air, its on-time after the admission; in profile 3 with the admission.
     ///
     /// # Errors
     ///

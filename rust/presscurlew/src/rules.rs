@@ -123,10 +123,11 @@ pub fn duty_update(
     answered(answer.refusal, update)
 }
 
-/// The shortest time in µs from an admission to the next one, where `ontime` is that of the packet
-/// admitted last.
+/// The wait in µs before the next admission, where `ontime` is that of the packet admitted last.
 ///
-/// Profiles 1 and 2 go by the level, profile 3 by duty and on-time. All are judged, used or not.
+/// In profiles 1 and 2 it goes by the level and runs from the end of that packet, `ontime` after its admission; the
+/// on-time is no part of the answer. In profile 3 it goes by duty and on-time and runs from the admission. All are
+/// judged, used or not.
 ///
 /// # Errors
 ///

@@ -71,7 +71,7 @@ unsafe extern "C" {
         new: u32,
     ) -> DutyAnswer;
 
-    /// The wait after an admission of this on-time.
+    /// The wait after a packet of this on-time: from its end in profiles 1 and 2, from its start in profile 3.
     pub safe fn presscurlew_wait(profile: u32, level: u32, duty: u32, ontime: u32) -> WaitAnswer;
 }
 

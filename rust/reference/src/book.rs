@@ -7,7 +7,7 @@
 //! 1. The ceiling: over any window of W µs, closed at both ends,
 //!    100 × air time admitted is at most 3 × W + 400,000.
 //! 2. The floor: an accepted poll that finds an unexpired packet when every
-//!    earlier admission is 1,000,000 µs or more before sends.
+//!    earlier admission is [`floor`] µs or more before sends.
 //! 3. SENT never comes with all columns empty, and carries the packet struck.
 //! 4. A packet of priority 0 still there has seen at most k admissions.
 //! 5. IDLE comes exactly if all columns are empty.
@@ -25,8 +25,16 @@ use crate::state::{Counts, Packet};
 pub const CEILING_BASE: i128 = 400_000;
 /// The ceiling's part for each µs of the window.
 pub const CEILING_SLOPE: i128 = 3;
-/// An admission this many µs ago no longer keeps a poll from sending.
-pub const FLOOR: u64 = 1_000_000;
+
+/// W-202: in this profile an admission so many µs ago no longer keeps a poll
+/// from sending. Only the three profiles have runs.
+pub fn floor(profile: u32) -> u64 {
+    match profile {
+        1 => 1_001_000,
+        2 => 1_000_500,
+        _ => 1_000_000,
+    }
+}
 
 /// A packet in a column.
 #[derive(Clone, Copy, Debug, PartialEq, Eq)]
@@ -57,6 +65,7 @@ pub struct Closest {
 /// The book of one run.
 #[derive(Clone, Debug)]
 pub struct Book {
+    floor: u64,
     time: u64,
     stamp: u32,
     columns: [VecDeque<Entry>; 4],
@@ -67,9 +76,10 @@ pub struct Book {
 }
 
 impl Book {
-    /// The book after a make that wasn't refused, with make's stamp.
-    pub fn new(stamp: u32) -> Book {
+    /// The book after a make that wasn't refused, with make's profile and stamp.
+    pub fn new(profile: u32, stamp: u32) -> Book {
         Book {
+            floor: floor(profile),
             time: 0,
             stamp,
             columns: Default::default(),
@@ -78,6 +88,11 @@ impl Book {
             heaviest: 0,
             closest: Closest::default(),
         }
+    }
+
+    /// The floor of the run's profile.
+    pub fn floor(&self) -> u64 {
+        self.floor
     }
 
     /// The book's time.
@@ -236,14 +251,14 @@ impl Book {
         }
     }
 
-    /// The floor: CLOSED needs an admission less than 1,000,000 µs ago. The
-    /// last admission is the nearest, so it alone is looked at.
+    /// The floor: CLOSED needs an admission less than the floor ago. The last
+    /// admission is the nearest, so it alone is looked at.
     fn closed(&mut self) -> Result<(), String> {
         let Some(last) = self.last_admission else {
             return Err("floor: CLOSED before any admission".to_string());
         };
         let passed = self.time - last;
-        if passed >= FLOOR {
+        if passed >= self.floor {
             return Err(format!(
                 "floor: CLOSED {passed} µs after the last admission"
             ));
@@ -334,7 +349,7 @@ mod tests {
     /// reaches this error; the check itself is tried on a page with a wrong k.
     #[test]
     fn a_priority_0_packet_that_saw_too_much_is_rejected() {
-        let mut book = Book::new(0);
+        let mut book = Book::new(1, 0);
         for id in [1, 2] {
             let (priority, ontime, lifetime, stamp) = (0, 1, 9, 0);
             let offer = Call::Offer {
@@ -359,14 +374,14 @@ mod tests {
     #[test]
     fn counts_that_do_not_add_up_are_rejected() {
         let poll = Call::Poll { stamp: 0 };
-        Book::new(0).feed(&poll, &Answer::Idle).unwrap();
+        Book::new(1, 0).feed(&poll, &Answer::Idle).unwrap();
         let bent: [fn(&mut Counts); 3] = [
             |counts| counts.accepted += 1,
             |counts| counts.sent += 1,
             |counts| counts.expired += 1,
         ];
         for bend in bent {
-            let mut book = Book::new(0);
+            let mut book = Book::new(1, 0);
             bend(&mut book.counts);
             let said = book.feed(&poll, &Answer::Idle).unwrap_err();
             assert!(said.contains("counts"), "{said}");

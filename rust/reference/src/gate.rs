@@ -216,16 +216,16 @@ fn first_waiting(state: &State) -> Option<Packet> {
     None
 }
 
-/// The µs left of the wait, if something was admitted and less than the wait
-/// has passed since. The wait is taken afresh.
+/// The µs left until the wait is over, if something was admitted and it isn't
+/// over yet. The wait is taken afresh.
 fn time_left(state: &State) -> Option<u64> {
     if !state.any {
         return None;
     }
-    let wait = rules::wait(state.profile, state.level, state.duty, state.ontime)?;
+    let closed = rules::closed_for(state.profile, state.level, state.duty, state.ontime)?;
     let passed = state.time - state.at;
-    if passed < u64::from(wait) {
-        Some(u64::from(wait) - passed)
+    if passed < closed {
+        Some(closed - passed)
     } else {
         None
     }

@@ -3,6 +3,15 @@
 //! A rule answers `None` where the paper gives no answer. No rule can
 //! overflow, whatever numbers it is given.
 
+/// Where in a transmission the wait starts (W-202).
+#[derive(Clone, Copy, Debug, PartialEq, Eq)]
+pub enum WaitFrom {
+    /// At its start, the admission.
+    Start,
+    /// At its end, the admission plus the admitted packet's on-time.
+    End,
+}
+
 /// The constants of a reactive profile ("Samples", table of levels).
 #[derive(Clone, Copy, Debug, PartialEq, Eq)]
 pub struct Reactive {
@@ -19,6 +28,8 @@ pub struct Reactive {
     pub active3_to: u32,
     /// The wait of levels 0 to 4, in µs.
     pub waits: [u32; 5],
+    /// Where the wait starts.
+    pub wait_from: WaitFrom,
 }
 
 /// The constants of the adaptive profile ("Samples" and "Waiting and leaving").
@@ -36,6 +47,8 @@ pub struct Adaptive {
     pub wait_least: u32,
     /// The wait is held at or below this, in µs.
     pub wait_most: u32,
+    /// Where the wait starts.
+    pub wait_from: WaitFrom,
 }
 
 /// Profile 1: reactive, Table A.1.
@@ -46,6 +59,7 @@ pub const PROFILE_1: Reactive = Reactive {
     active2_to: 499_999,
     active3_to: 600_000,
     waits: [100_000, 200_000, 400_000, 500_000, 1_000_000],
+    wait_from: WaitFrom::End,
 };
 
 /// Profile 2: reactive, Table A.2.
@@ -56,6 +70,7 @@ pub const PROFILE_2: Reactive = Reactive {
     active2_to: 499_999,
     active3_to: 650_000,
     waits: [50_000, 100_000, 200_000, 250_000, 1_000_000],
+    wait_from: WaitFrom::End,
 };
 
 /// Profile 3: adaptive, clause 5.4 with Table 3's values.
@@ -66,6 +81,8 @@ pub const PROFILE_3: Adaptive = Adaptive {
     offset_most: 500_000,
     wait_least: 25_000,
     wait_most: 1_000_000,
+    // On-time over duty is a distance from start to start.
+    wait_from: WaitFrom::Start,
 };
 
 /// The least duty of any state ("State and calls"), and a fresh state's.
@@ -252,6 +269,27 @@ pub fn wait(profile: u32, level: u32, duty: u32, ontime: u32) -> Option<u32> {
         1 | 2 => wait_reactive(profile, level),
         3 => wait_adaptive(duty, ontime),
         _ => None,
+    }
+}
+
+/// W-202: where the profile's wait starts.
+pub fn wait_from(profile: u32) -> Option<WaitFrom> {
+    match profile {
+        1 => Some(PROFILE_1.wait_from),
+        2 => Some(PROFILE_2.wait_from),
+        3 => Some(PROFILE_3.wait_from),
+        _ => None,
+    }
+}
+
+/// W-202: how long after an admission the gate is closed: the wait, and before
+/// it the on-time where the wait starts at the end. `ontime` is the admitted
+/// packet's.
+pub fn closed_for(profile: u32, level: u32, duty: u32, ontime: u32) -> Option<u64> {
+    let wait = u64::from(wait(profile, level, duty, ontime)?);
+    match wait_from(profile)? {
+        WaitFrom::Start => Some(wait),
+        WaitFrom::End => Some(u64::from(ontime) + wait),
     }
 }
 

@@ -27,11 +27,11 @@ fn the_sample_is_kept() {
     for words in [
         "Run 1: profile 2, 0.050200 s, records 1 to 8",
         "accepted: 0 samples, 2 offers, 4 polls; refused: 1 CLOCK-BACK",
-        "Counts     KEPT. 2 accepted = 2 sent + 0 expired + 0 waiting at the end. They add up at every record.",
-        "KEPT. Most air time in any second: 800 µs of 34 ms, up to 0.050200 s.",
+        "Counts     KEPT. 2 accepted = 1 sent + 0 expired + 1 waiting at the end. They add up at every record.",
+        "KEPT. Most air time in any second: 400 µs of 34 ms, up to 0.000200 s.",
         "Closest call: one packet at 0.000200 s, with 400 µs of the 4,000 µs allowed.",
-        "KEPT. Latest CLOSED: 800 µs after an admission; from 1 s on a poll sends.",
-        "none went: 50 ms, up to the SENT at 0.050200 s.",
+        "KEPT. Latest CLOSED: 50 ms after an admission; from 1.0005 s on a poll sends.",
+        "none went: 100 µs, up to the SENT at 0.000200 s.",
         "8 records in 1 run, answers fit.",
         "Verdict: KEPT. Ceiling and floor held throughout.",
     ] {
@@ -51,19 +51,37 @@ fn one_wrong_answer_is_found() {
         (4, "IDLE", "record 4 (poll at 4294967200): IDLE, but a packet waits"),
         (4, "CLOSED 5", "floor: CLOSED before any admission"),
         (4, "TAKEN", "TAKEN is no answer to this call"),
-        (5, "CLOSED 49201", "the answer is CLOSED 49201, the right one is CLOSED 49200"),
-        (5, "SENT 7", "record 5 (poll at 704): the answer is SENT 7, the right one is CLOSED 49200"),
+        (5, "CLOSED 49601", "the answer is CLOSED 49601, the right one is CLOSED 49600"),
+        // As if the wait had started with the admission.
+        (5, "CLOSED 49200", "the answer is CLOSED 49200, the right one is CLOSED 49600"),
+        (5, "SENT 7", "record 5 (poll at 704): the answer is SENT 7, the right one is CLOSED 49600"),
         (5, "IDLE", "IDLE, but a packet waits"),
-        (6, "CLOSED 1", "the answer is CLOSED 1, the right one is SENT 7"),
+        (6, "SENT 7", "the answer is SENT 7, the right one is CLOSED 400"),
         (7, "IDLE", "record 7 (poll at 49903)"),
-        (8, "SENT 7", "SENT 7, but nothing waits"),
-        (8, "CLOSED 9", "CLOSED, but nothing waits"),
-        (8, "REFUSED 3", "the answer is REFUSED 3, the right one is IDLE"),
+        (8, "SENT 8", "SENT 8, but packet 7 of priority 2 is first in turn"),
+        (8, "CLOSED 9", "the answer is CLOSED 9, the right one is CLOSED 400"),
+        (8, "REFUSED 3", "the answer is REFUSED 3, the right one is CLOSED 400"),
     ];
     for (line, text, words) in cases {
         let done = sample_with(line, text).failed(1, words);
         let said = done.text();
         assert!(said.contains("Verdict: NOT KEPT"), "{text}: {said}");
+    }
+}
+
+#[test]
+fn a_wrong_answer_where_nothing_waits_is_found() {
+    let log = log_of("make 2 at 0\npoll at +1\n");
+    assert_eq!(answers(&log), "READY\nIDLE\nEND\n");
+    for (said, words) in [
+        ("SENT 7", "SENT 7, but nothing waits"),
+        ("CLOSED 9", "CLOSED, but nothing waits"),
+        (
+            "REFUSED 3",
+            "the answer is REFUSED 3, the right one is IDLE",
+        ),
+    ] {
+        check(&log, &format!("READY\n{said}\nEND\n")).failed(1, words);
     }
 }
 
@@ -106,7 +124,10 @@ fn answers_that_do_not_fit_the_log() {
             good.replace("TAKEN", "TAKEN "),
             "line 2: 'TAKEN ' is no answer",
         ),
-        (good.replace("IDLE", "idle"), "line 8: 'idle' is no answer"),
+        (
+            good.replace("REFUSED", "refused"),
+            "line 7: 'refused 2' is no answer",
+        ),
         (
             good.replace('\n', "\r\n"),
             "line 1: 'READY\\r' is no answer",
@@ -123,7 +144,7 @@ fn answers_that_do_not_fit_the_log() {
     }
     check(&log[..120], &good).failed(
         2,
-        "line 8: IDLE where TORN is due: the log ends with 8 bytes after 7 records",
+        "line 8: CLOSED 400 where TORN is due: the log ends with 8 bytes after 7 records",
     );
 }
 
@@ -172,14 +193,29 @@ fn the_floor_is_watched() {
         1,
         "record 5 (poll at 999999): the answer is CLOSED 1, the right one is SENT 2",
     );
-    // At level 4 the first CLOSED is right, and the second breaks the floor.
-    let loud = "sample 1000 at +0\n".repeat(4);
-    let log = log_of(&text.replace("poll at +0\n", &format!("{loud}poll at +0\n")));
-    let out = "READY\nTAKEN\nTAKEN\nTAKEN\nTAKEN\nTAKEN\nTAKEN\nSENT 1\nCLOSED 1\nCLOSED 1\nEND\n";
-    check(&log, out).failed(
-        1,
-        "record 10 (poll at 1000000): floor: CLOSED 1000000 µs after the last admission",
-    );
+    // With the longest wait and on-time the first CLOSED is right, and the second breaks the floor.
+    for (profile, ontime, floor) in [
+        (1, 1_000, 1_001_000),
+        (2, 500, 1_000_500),
+        (3, 4_000, 1_000_000),
+    ] {
+        let mut text = format!("make {profile} at 0\n");
+        text += &"sample 1000 at +0\n".repeat(4);
+        for id in [1, 2] {
+            text += &format!("offer {id} priority 0 ontime {ontime} lifetime 60s at +0\n");
+        }
+        text += &format!("poll at +0\npoll at {}\npoll at {floor}\n", floor - 1);
+        let log = log_of(&text);
+        let out = answers(&log);
+        assert!(out.ends_with("\nSENT 1\nCLOSED 1\nSENT 2\nEND\n"), "{out}");
+        check(&log, &out).good();
+        check(&log, &out.replace("SENT 2", "CLOSED 1")).failed(
+            1,
+            &format!(
+                "record 10 (poll at {floor}): floor: CLOSED {floor} µs after the last admission"
+            ),
+        );
+    }
 }
 
 /// Sent, expired and waiting are counted from calls and answers, each where it happens, and anew in each run.

@@ -14,10 +14,10 @@ fn the_sample() {
         "2 0.000100 offer 7: priority 2, 400 µs, lives 1 s TAKEN 1 0 0 0 0 1 0 level 0, 50 ms",
         "3 0.000100 offer 8: priority 1, 400 µs, lives 60 ms TAKEN 2 0 0 0 1 1 0 level 0, 50 ms",
         "4 0.000200 poll SENT 8 2 1 0 0 0 1 0 level 0, 50 ms",
-        "5 0.001000 poll CLOSED 49200 2 1 0 0 0 1 0 level 0, 50 ms",
-        "6 0.050200 poll SENT 7 2 2 0 0 0 0 0 level 0, 50 ms",
-        "7 0.050200 poll REFUSED 2 CLOCK-BACK 2 2 0 0 0 0 0 level 0, 50 ms",
-        "8 0.050200 poll IDLE 2 2 0 0 0 0 0 level 0, 50 ms",
+        "5 0.001000 poll CLOSED 49600 2 1 0 0 0 1 0 level 0, 50 ms",
+        "6 0.050200 poll CLOSED 400 2 1 0 0 0 1 0 level 0, 50 ms",
+        "7 0.050200 poll REFUSED 2 CLOCK-BACK 2 1 0 0 0 1 0 level 0, 50 ms",
+        "8 0.050200 poll CLOSED 400 2 1 0 0 0 1 0 level 0, 50 ms",
         "END",
     ];
     assert_eq!(lines, wanted);
@@ -97,7 +97,7 @@ fn a_torn_tail_and_an_empty_log() {
 fn wrong_answers_are_marked() {
     let folder = Folder::new();
     let out = String::from_utf8(example_bytes("sample", "out")).unwrap();
-    let out = folder.file("bad.out", out.replace("CLOSED 49200", "IDLE"));
+    let out = folder.file("bad.out", out.replace("CLOSED 49600", "IDLE"));
     let shown = curlew(&["show", &example("sample", "log"), &out]);
     let shown = shown.failed(1, "record 5 (poll at 704): IDLE, but a packet waits");
     let text = shown.text();

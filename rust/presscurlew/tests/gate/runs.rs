@@ -117,8 +117,8 @@ impl Caller {
             turns.extend(expiries.map(|packet| packet.arrival + u64::from(packet.lifetime)));
         }
         if state.any {
-            let wait = rules::wait(state.profile, state.level, state.duty, state.ontime);
-            turns.push(state.at + u64::from(wait.unwrap()));
+            let closed = rules::closed_for(state.profile, state.level, state.duty, state.ontime);
+            turns.push(state.at + closed.unwrap());
         }
         if TIME_END - state.time < 1 << 32 {
             turns.push(TIME_END);
@@ -221,7 +221,7 @@ fn run(profile: u32, style: Style, seed: u64, calls: u64, tally: &mut Tally) {
     };
     let stamp = caller.rng.next_u32();
     let mut state = made(profile, stamp);
-    let mut book = Book::new(stamp);
+    let mut book = Book::new(profile, stamp);
     let mut place = Place {
         seed,
         profile,
@@ -307,6 +307,43 @@ fn runs_that_spend_their_offers() {
     }
 }
 
+/// In each profile a run with the longest wait after the longest on-time: closed to the last µs before the floor.
+#[test]
+fn runs_that_reach_the_floor() {
+    for (profile, floor) in [(1, 1_001_000), (2, 1_000_500), (3, 1_000_000)] {
+        let mut state = made(profile, 0);
+        let mut asked = vec![];
+        if profile != 3 {
+            let (busy, stamp) = (1_000, 0);
+            asked = vec![Call::SampleCount { busy, stamp }; 4];
+        }
+        let (priority, lifetime, stamp) = (0, 60_000_000, 0);
+        let ontime = rules::on_time_max(profile).unwrap();
+        asked.extend([1, 2].map(|id| Call::Offer {
+            id,
+            priority,
+            ontime,
+            lifetime,
+            stamp,
+        }));
+        asked.extend([0, 0, floor - 1, floor].map(|stamp| Call::Poll { stamp }));
+        let mut polled = vec![];
+        for call in &asked {
+            let (next, answer) = hold(&state, call, &format!("profile {profile}, to the floor"));
+            polled.push(match answer {
+                Answer::Sent(packet) => u64::from(packet.id),
+                Answer::Closed(left) => left,
+                _ => 0,
+            });
+            state = next;
+        }
+        let [.., first, closed, last, second] = polled[..] else {
+            panic!("four polls");
+        };
+        assert_eq!([first, closed, last, second], [1, u64::from(floor), 1, 2]);
+    }
+}
+
 /// A make of any profile and stamp: only 1 to 3 are ready, else the all-zero state comes back.
 #[test]
 fn makes() {
@@ -326,7 +363,7 @@ fn run_to_the_end_of_time() {
     let mut rng = Rng::new(0xe4d);
     for profile in PROFILES {
         let mut state = made(profile, 7);
-        let mut book = Book::new(7);
+        let mut book = Book::new(profile, 7);
         let mut ends = 0;
         while ends < 1_000 {
             let left = u32::try_from(TIME_END - state.time).unwrap_or(u32::MAX);

@@ -91,7 +91,7 @@ fn a_gate_says_what_the_reference_says() {
         let stamp = rng.next_u32();
         let mut gate = Gate::new(profile, stamp).unwrap();
         let (mut state, _) = gate::make(profile, stamp);
-        let mut book = Book::new(stamp);
+        let mut book = Book::new(profile, stamp);
         for index in 0..200_000 {
             let call = any_call(&mut rng, state.stamp);
             let (next, answer) = gate::call(state, &call);
@@ -152,7 +152,7 @@ fn answers_are_shown_in_the_words_of_the_log() {
     assert_eq!(presscurlew::Answer::Sent(packet).to_string(), "SENT 7");
     assert_eq!(presscurlew::Answer::Idle.to_string(), "IDLE");
     assert_eq!(
-        presscurlew::Answer::Closed { micros: 49_200 }.to_string(),
-        "CLOSED 49200"
+        presscurlew::Answer::Closed { micros: 49_600 }.to_string(),
+        "CLOSED 49600"
     );
 }

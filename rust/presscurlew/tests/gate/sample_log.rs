@@ -8,16 +8,16 @@ const LOG: [&str; 8] = [
     "TAKEN",
     "TAKEN",
     "SENT 8",
-    "CLOSED 49200",
-    "SENT 7",
+    "CLOSED 49600",
+    "CLOSED 400",
     "REFUSED 2",
-    "IDLE",
+    "CLOSED 400",
 ];
 
-/// Both packets go.
+/// One packet goes, the other waits.
 const COUNTS: Counts = Counts {
     accepted: 2,
-    sent: 2,
+    sent: 1,
     expired: 0,
 };
 

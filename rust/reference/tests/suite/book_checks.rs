@@ -27,9 +27,14 @@ fn packet(id: u32, priority: u32, ontime: u32, lifetime: u32, arrival: u64) -> P
     }
 }
 
-/// A book, its make at stamp 0, fed right calls and answers.
+/// A book of profile 3, its make at stamp 0, fed right calls and answers.
 fn book(fed: &[(Call, Answer)]) -> Book {
-    let mut book = Book::new(0);
+    book_of(3, fed)
+}
+
+/// The same, of any profile.
+fn book_of(profile: u32, fed: &[(Call, Answer)]) -> Book {
+    let mut book = Book::new(profile, 0);
     for (call, answer) in fed {
         book.feed(call, answer).unwrap();
     }
@@ -121,7 +126,7 @@ fn sent_too_early_breaks_the_ceiling() {
 
 #[test]
 fn many_admissions_a_little_too_early_break_the_ceiling() {
-    let mut book = Book::new(0);
+    let mut book = Book::new(3, 0);
     let mut stamp = 0;
     for turn in 0.. {
         book.feed(&offer(1, 3, 1_000, 60_000, stamp), &Answer::Taken)
@@ -145,21 +150,21 @@ fn closed_where_the_floor_says_send() {
         Answer::Closed(5),
         "floor",
     );
-    let book = book(&[
-        (offer(1, 3, 9, 60_000_000, 0), Answer::Taken),
-        (offer(2, 3, 9, 60_000_000, 0), Answer::Taken),
-        (
-            Call::Poll { stamp: 7 },
-            Answer::Sent(packet(1, 3, 9, 60_000_000, 0)),
-        ),
-    ]);
-    accepts(&book, Call::Poll { stamp: 1_000_006 }, Answer::Closed(1));
-    rejects(
-        &book,
-        Call::Poll { stamp: 1_000_007 },
-        Answer::Closed(1),
-        "floor",
-    );
+    for (profile, floor) in [(1, 1_001_000), (2, 1_000_500), (3, 1_000_000)] {
+        let fed = [
+            (offer(1, 3, 9, 60_000_000, 0), Answer::Taken),
+            (offer(2, 3, 9, 60_000_000, 0), Answer::Taken),
+            (
+                Call::Poll { stamp: 7 },
+                Answer::Sent(packet(1, 3, 9, 60_000_000, 0)),
+            ),
+        ];
+        let book = book_of(profile, &fed);
+        assert_eq!(book.floor(), u64::from(floor));
+        let poll = |passed: u32| Call::Poll { stamp: 7 + passed };
+        accepts(&book, poll(floor - 1), Answer::Closed(1));
+        rejects(&book, poll(floor), Answer::Closed(1), "floor");
+    }
 }
 
 #[test]
@@ -213,7 +218,7 @@ fn a_sample_moves_the_books_clock_alone() {
 /// Two come, one goes as the other waits, a third expires unseen until a poll.
 #[test]
 fn the_book_counts_what_it_writes_and_strikes() {
-    let mut book = Book::new(0);
+    let mut book = Book::new(3, 0);
     let first = packet(1, 0, 9, 60_000, 0);
     let fed = [
         (offer(1, 0, 9, 60_000, 0), Answer::Taken, counts(1, 0, 0)),
@@ -288,7 +293,7 @@ fn slack_by_every_window(admissions: &[(u64, u32)]) -> Option<i128> {
 fn the_ceiling_is_that_of_every_window() {
     let mut rng = Rng::new(31);
     for _ in 0..200 {
-        let mut book = Book::new(0);
+        let mut book = Book::new(3, 0);
         let mut admissions: Vec<(u64, u32)> = Vec::new();
         let mut stamp = 0u32;
         for _ in 0..60 {
@@ -339,7 +344,7 @@ fn wrong_answers(rng: &mut Rng, right: &Answer, state: &State) -> Vec<Answer> {
 fn changed_answers_in_random_runs_are_rejected() {
     for profile in [1, 2, 3] {
         let (mut state, _) = gate::make(profile, 0);
-        let mut book = Book::new(0);
+        let mut book = Book::new(profile, 0);
         let mut caller = Caller::new(profile, 40);
         let mut rng = Rng::new(41);
         let mut changed = 0;
@@ -410,7 +415,7 @@ const SLIPS: [(&str, Slip); 7] = [
 fn gates_that_count_wrongly_are_rejected() {
     for (slip, added) in SLIPS {
         let (mut state, _) = gate::make(1, 0);
-        let mut book = Book::new(0);
+        let mut book = Book::new(1, 0);
         let mut caller = Caller::new(1, 60);
         let mut wrong = Counts::default();
         let rejected = (0..20_000).any(|_| {
@@ -435,7 +440,7 @@ fn gates_without_a_wait_or_that_never_open_are_rejected() {
     for profile in [1, 3] {
         for silent in [false, true] {
             let (mut state, _) = gate::make(profile, 0);
-            let mut book = Book::new(0);
+            let mut book = Book::new(profile, 0);
             let mut caller = Caller::new(profile, 50);
             let rejected = (0..20_000).any(|_| {
                 let call = caller.call(state.stamp);

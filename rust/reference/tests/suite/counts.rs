@@ -30,9 +30,9 @@ fn each_event_counts_once() {
         assert_eq!(state.counts, counts(2, 0, 0));
         let state = sent(state, 1, 0);
         assert_eq!(state.counts, counts(2, 1, 0));
-        let state = sent(state, 2, 1_000_000);
+        let state = sent(state, 2, 1_001_000);
         assert_eq!(state.counts, counts(2, 2, 0));
-        let (state, answer) = gate::poll(state, 1_000_000);
+        let (state, answer) = gate::poll(state, 1_001_000);
         assert_eq!((answer, state.counts), (Answer::Idle, counts(2, 2, 0)));
     }
 }
@@ -219,7 +219,7 @@ fn runs_that_spend_their_offers() {
         for (seed, left) in [(70, 0), (71, 1), (72, 40), (73, 1_000)] {
             let start = fresh(profile).with_accepted(ACCEPTED_MOST - left);
             let (mut state, mut rich) = (start, fresh(profile));
-            let (mut book, mut caller) = (Book::new(0), Caller::new(profile, seed));
+            let (mut book, mut caller) = (Book::new(profile, 0), Caller::new(profile, seed));
             let mut spent = 0;
             for _ in 0..10_000 {
                 let call = caller.call(state.stamp);

@@ -9,7 +9,7 @@ use reference::rng::Rng;
 use reference::state::{Packet, State};
 
 const SAMPLE_OUTPUT: &str =
-    "READY\nTAKEN\nTAKEN\nSENT 8\nCLOSED 49200\nSENT 7\nREFUSED 2\nIDLE\nEND\n";
+    "READY\nTAKEN\nTAKEN\nSENT 8\nCLOSED 49600\nCLOSED 400\nREFUSED 2\nCLOSED 400\nEND\n";
 
 fn make(profile: u8, stamp: u32) -> Record {
     Record {
@@ -274,7 +274,7 @@ fn lines_of_answers() {
     assert_eq!(line(&Answer::Sent(packet)), "SENT 4294967295");
     assert_eq!(line(&Answer::Sent(Packet::default())), "SENT 0");
     assert_eq!(line(&Answer::Idle), "IDLE");
-    assert_eq!(line(&Answer::Closed(1_000_000)), "CLOSED 1000000");
+    assert_eq!(line(&Answer::Closed(1_001_000)), "CLOSED 1001000");
     assert_eq!(line(&Answer::Refused(10)), "REFUSED 10");
     assert_eq!(line(&Answer::Refused(11)), "REFUSED 11");
 }

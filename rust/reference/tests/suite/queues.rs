@@ -1,8 +1,8 @@
 //! "Waiting and leaving": order, expiry, the wait.
 
 use crate::help::{assert_refused, fresh, late, offered, sampled, sent, Answer, PROFILES};
-use reference::gate;
 use reference::state::Packet;
+use reference::{gate, rules};
 
 #[test]
 fn lowest_queue_first_oldest_first() {
@@ -14,7 +14,7 @@ fn lowest_queue_first_oldest_first() {
             stamp += 10;
         }
         for id in [4, 7, 2, 5, 6, 1, 3] {
-            stamp += 1_000_000;
+            stamp += 1_001_000;
             state = sent(state, id, stamp);
         }
         assert_eq!(gate::poll(state, stamp).1, Answer::Idle);
@@ -47,7 +47,7 @@ fn repeated_identifiers_are_kept_apart() {
     }
     for turn in 0..5u32 {
         assert_eq!(state.queues[0].len, 5 - u64::from(turn));
-        state = sent(state, u32::MAX, turn * 100_000);
+        state = sent(state, u32::MAX, turn * 100_001);
     }
 }
 
@@ -80,7 +80,7 @@ fn idle_and_closed_polls_move_the_clock_and_remove_the_expired() {
     let state = offered(state, 2, 2, 50, 0);
     let state = offered(state, 3, 3, 51, 0);
     let (closed, answer) = gate::poll(state, 50);
-    assert_eq!(answer, Answer::Closed(99_950));
+    assert_eq!(answer, Answer::Closed(99_951));
     assert_eq!((closed.time, closed.waiting()), (50, 1));
     assert_eq!(closed.queues[2].len, 0);
 }
@@ -105,19 +105,22 @@ fn a_full_queue_counts_the_unexpired_at_the_new_time() {
 }
 
 #[test]
-fn the_gate_opens_exactly_after_the_wait() {
-    for profile in [1, 2] {
+fn the_gate_opens_exactly_when_the_wait_after_the_on_time_is_over() {
+    for (profile, most) in [(1, 1_000), (2, 500)] {
         for level in 0..=4 {
-            let mut state = late(profile, [2, 0, 0, 0]);
-            state.level = level;
-            state.at = state.time;
-            let wait = reference::rules::wait_reactive(profile, level).unwrap();
-            let (_, answer) = gate::poll(state, state.stamp);
-            assert_eq!(answer, Answer::Closed(u64::from(wait)));
-            let near = state.stamp + wait - 1;
-            state.queues[0].slots[0].lifetime = 60_000_000;
-            assert_eq!(gate::poll(state, near).1, Answer::Closed(1));
-            assert!(matches!(gate::poll(state, near + 1).1, Answer::Sent(_)));
+            for ontime in [1, 2, most / 2, most] {
+                let mut state = late(profile, [2, 0, 0, 0]);
+                state.level = level;
+                state.at = state.time;
+                state.ontime = ontime;
+                let closed = ontime + rules::wait_reactive(profile, level).unwrap();
+                let (_, answer) = gate::poll(state, state.stamp);
+                assert_eq!(answer, Answer::Closed(u64::from(closed)));
+                let near = state.stamp + closed - 1;
+                state.queues[0].slots[0].lifetime = 60_000_000;
+                assert_eq!(gate::poll(state, near).1, Answer::Closed(1));
+                assert!(matches!(gate::poll(state, near + 1).1, Answer::Sent(_)));
+            }
         }
     }
 }
@@ -126,12 +129,27 @@ fn the_gate_opens_exactly_after_the_wait() {
 fn the_wait_is_taken_afresh_at_each_poll() {
     let state = sent(offered(fresh(1), 1, 0, 9, 0), 1, 0);
     let state = offered(state, 2, 0, 60_000_000, 0);
-    assert_eq!(gate::poll(state, 99_999).1, Answer::Closed(1));
+    assert_eq!(gate::poll(state, 100_000).1, Answer::Closed(1));
     let louder = sampled(state, 1_000);
-    assert_eq!(gate::poll(louder, 99_999).1, Answer::Closed(100_001));
+    assert_eq!(gate::poll(louder, 100_000).1, Answer::Closed(100_001));
     let quiet = sampled(louder, 0);
-    assert_eq!(gate::poll(quiet, 99_999).1, Answer::Closed(1));
-    sent(quiet, 2, 100_000);
+    assert_eq!(gate::poll(quiet, 100_000).1, Answer::Closed(1));
+    sent(quiet, 2, 100_001);
+}
+
+/// It is the admitted packet that was on air; the one that waits has no say.
+#[test]
+fn the_wait_starts_with_the_end_of_the_last_admitted() {
+    for (profile, wait, most) in [(1, 100_000, 1_000), (2, 50_000, 500)] {
+        for (first, second) in [(1, most), (most, 1)] {
+            let (state, _) = gate::offer(fresh(profile), 1, 0, first, 9, 0);
+            let state = sent(state, 1, 0);
+            let (state, _) = gate::offer(state, 2, 0, second, 60_000_000, 0);
+            let closed = Answer::Closed(u64::from(first + wait));
+            assert_eq!(gate::poll(state, 0).1, closed);
+            sent(state, 2, first + wait);
+        }
+    }
 }
 
 #[test]

@@ -1,5 +1,6 @@
 //! The rules over whole ranges, and at the ends of the number types.
 
+use reference::book::floor;
 use reference::rng::Rng;
 use reference::rules;
 
@@ -53,6 +54,39 @@ fn reactive_waits_by_level() {
     assert_eq!(rules::wait(4, 0, 600_000, 1), None);
 }
 
+/// W-202: the wait runs from the end in profiles 1 and 2, from the start in 3.
+#[test]
+fn the_gate_is_closed_for_the_wait_from_its_start_or_end() {
+    for profile in [1, 2, 3] {
+        let most = rules::on_time_max(profile).unwrap();
+        for level in 0..=4 {
+            for duty in [600_000, 7_777_777, 30_000_000] {
+                for ontime in 1..=most {
+                    let wait = rules::wait(profile, level, duty, ontime).unwrap();
+                    let before = if profile == 3 { 0 } else { ontime };
+                    let closed = rules::closed_for(profile, level, duty, ontime);
+                    assert_eq!(closed, Some(u64::from(before + wait)));
+                }
+            }
+        }
+    }
+    for profile in [0, 4, u32::MAX] {
+        assert_eq!(rules::wait_from(profile), None);
+        assert_eq!(rules::closed_for(profile, 0, 600_000, 1), None);
+    }
+    assert_eq!(rules::closed_for(1, 5, 600_000, 1), None);
+}
+
+/// The book's floors are the longest that the rules keep a gate closed.
+#[test]
+fn the_floor_is_the_longest_that_a_gate_is_closed() {
+    for profile in [1, 2, 3] {
+        let most = rules::on_time_max(profile).unwrap();
+        let closed = (1..=most).filter_map(|ontime| rules::closed_for(profile, 4, 600_000, ontime));
+        assert_eq!(closed.max(), Some(floor(profile)));
+    }
+}
+
 #[test]
 fn offset_is_the_greatest_whole_number_below() {
     for smoothed in 0..=1_000_000u32 {
@@ -99,6 +133,8 @@ fn rules_at_the_ends_of_their_types() {
     assert_eq!(rules::wait_adaptive(1, u32::MAX), Some(1_000_000));
     assert_eq!(rules::wait_adaptive(u32::MAX, 0), Some(25_000));
     assert_eq!(rules::wait_adaptive(0, 1), None);
+    let end = u64::from(u32::MAX) + 1_000_000;
+    assert_eq!(rules::closed_for(1, 4, 0, u32::MAX), Some(end));
     assert_eq!(rules::load_of_count(u32::MAX), None);
     assert!(rules::expired(u64::MAX, 0, u32::MAX));
     assert!(!rules::expired(0, u64::MAX, 0));

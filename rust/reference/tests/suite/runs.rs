@@ -138,7 +138,7 @@ fn name(answer: &Answer) -> String {
 fn run(profile: u32, seed: u64, calls: u32) -> (BTreeMap<String, u32>, Book) {
     let first = seed as u32 ^ 0xF000_0000;
     let (mut state, _) = gate::make(profile, first);
-    let mut book = Book::new(first);
+    let mut book = Book::new(profile, first);
     let mut caller = Caller::new(profile, seed);
     let mut answers = BTreeMap::new();
     for _ in 0..calls {
@@ -179,7 +179,8 @@ fn claim_holds(profile: u32) {
 fn the_claim_holds_in_profile_1() {
     claim_holds(1);
     let (_, book) = run(1, 3, 50_000);
-    assert_eq!(book.closest().shortest_gap, Some(100_000));
+    // The shortest wait, after the shortest on-time.
+    assert_eq!(book.closest().shortest_gap, Some(100_001));
     assert_eq!(book.closest().smallest_slack, Some(300_000));
 }
 
@@ -187,7 +188,7 @@ fn the_claim_holds_in_profile_1() {
 fn the_claim_holds_in_profile_2() {
     claim_holds(2);
     let (_, book) = run(2, 3, 50_000);
-    assert_eq!(book.closest().shortest_gap, Some(50_000));
+    assert_eq!(book.closest().shortest_gap, Some(50_001));
     assert_eq!(book.closest().smallest_slack, Some(350_000));
 }
 
@@ -200,11 +201,70 @@ fn the_claim_holds_in_profile_3() {
     assert_eq!(book.closest().smallest_slack, Some(0));
 }
 
+/// Takes one call of a run; the book holds its answer to demand 3.
+fn told((state, book): &mut (State, Book), call: Call) -> Answer {
+    let (next, answer) = gate::call(*state, &call);
+    book.feed(&call, &answer).unwrap();
+    *state = next;
+    answer
+}
+
+/// A run that reaches the floor: four loud samples ask for the longest wait of
+/// profiles 1 and 2, a fresh duty for profile 3's, and this on-time goes first.
+fn reaches_the_floor(profile: u32, ontime: u32, floor: u32) {
+    let mut run = (gate::make(profile, 0).0, Book::new(profile, 0));
+    if profile != 3 {
+        for _ in 0..4 {
+            let (busy, stamp) = (1_000, 0);
+            told(&mut run, Call::SampleCount { busy, stamp });
+        }
+    }
+    for id in [1, 2] {
+        let (priority, lifetime, stamp) = (0, 60_000_000, 0);
+        let offer = Call::Offer {
+            id,
+            priority,
+            ontime,
+            lifetime,
+            stamp,
+        };
+        assert_eq!(told(&mut run, offer), Answer::Taken);
+    }
+    let poll = |stamp| Call::Poll { stamp };
+    let sent = |answer, id| matches!(answer, Answer::Sent(packet) if packet.id == id);
+    assert!(sent(told(&mut run, poll(0)), 1));
+    let closed = Answer::Closed(u64::from(floor));
+    assert_eq!(told(&mut run, poll(0)), closed);
+    assert_eq!(told(&mut run, poll(floor - 1)), Answer::Closed(1));
+    assert!(sent(told(&mut run, poll(floor)), 2));
+    let (_, book) = run;
+    assert_eq!(book.floor(), u64::from(floor));
+    assert_eq!(book.closest().latest_closed, Some(u64::from(floor) - 1));
+    assert_eq!(book.closest().longest_gap, Some(u64::from(floor)));
+}
+
+#[test]
+fn a_run_of_profile_1_reaches_the_floor() {
+    reaches_the_floor(1, 1_000, 1_001_000);
+}
+
+#[test]
+fn a_run_of_profile_2_reaches_the_floor() {
+    reaches_the_floor(2, 500, 1_000_500);
+}
+
+#[test]
+fn a_run_of_profile_3_reaches_the_floor() {
+    // 600 µs at the least duty are the longest wait; a longer on-time adds nothing.
+    for ontime in [600, 601, 4_000] {
+        reaches_the_floor(3, ontime, 1_000_000);
+    }
+}
+
 #[test]
 fn the_ceiling_is_kept_at_the_greatest_duty_and_load() {
-    let (mut state, _) = gate::make(3, 0);
-    state.duty = 30_000_000;
-    let mut book = Book::new(0);
+    let mut run = (gate::make(3, 0).0, Book::new(3, 0));
+    run.0.duty = 30_000_000;
     let mut stamp = 0u32;
     for turn in 0..20_000 {
         let ontime = [4_000, 751, 750, 3_999][turn % 4];
@@ -216,13 +276,10 @@ fn the_ceiling_is_kept_at_the_greatest_duty_and_load() {
             lifetime,
             stamp,
         };
-        for call in [offer, Call::Poll { stamp }] {
-            let (next, answer) = gate::call(state, &call);
-            book.feed(&call, &answer).unwrap();
-            state = next;
-        }
-        let wait = rules::wait(3, 0, state.duty, state.ontime).unwrap();
+        told(&mut run, offer);
+        told(&mut run, Call::Poll { stamp });
+        let wait = rules::wait(3, 0, run.0.duty, run.0.ontime).unwrap();
         stamp = stamp.wrapping_add(wait);
     }
-    assert_eq!(book.counts().sent, 20_000);
+    assert_eq!(run.1.counts().sent, 20_000);
 }
