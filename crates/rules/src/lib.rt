@@ -397,14 +397,21 @@ pub fn next_duty(duty: u32, smoothed: u32) -> u32
     hold(Profile3::LEAST_DUTY, Profile3::MOST_DUTY, base - down)
 }
 
-// The wait of the adaptive profile: the on-time over the duty, rounded up and held.
+// The wait of the adaptive profile: the on-time over the duty, rounded up and held. Where it is held, multiplying tells so,
+// since a division is dear on a small board: a quotient rounded up is below k + 1 exactly if the dividend is at most k times the divisor.
 pub fn adaptive_wait(ontime: u32, duty: u32) -> u32
     requires { ⌜ (ontime ≤ 4000) × ((600000 ≤ duty) × (duty ≤ 30000000)) ⌝ }
     ensures { λ r. ⌜ r ≡ adaptiveWait profile3 ontime duty ⌝ }
 {
+    let spread = (ontime as u64) * 1000000000;
     let d = duty as u64;
-    let spread = ((ontime as u64) * 1000000000 + (d - 1)) / d;
-    hold(Profile3::LEAST_WAIT, Profile3::MOST_WAIT, spread as u32)
+    if spread <= ((Profile3::LEAST_WAIT - 1) as u64) * d {
+        return Profile3::LEAST_WAIT;
+    }
+    if spread <= ((Profile3::MOST_WAIT - 1) as u64) * d {
+        return ((spread + (d - 1)) / d) as u32;
+    }
+    Profile3::MOST_WAIT
 }
 
 // The wait of a profile.

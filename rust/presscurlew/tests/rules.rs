@@ -231,6 +231,30 @@ fn wait_of_every_ontime_at_random_duties() {
     }
 }
 
+/// Profile 3's wait where it begins and ceases to be held: for every on-time, the duties beside those at which the quotient is a
+/// limit or next to it (document 02, W-203).
+#[test]
+fn wait_of_every_ontime_beside_its_limits() {
+    let mut held = [0u32; 3];
+    for ontime in 1..=MOST_ONTIME {
+        let spread = u64::from(ontime) * 1_000_000_000;
+        for quotient in [24_999, 25_000, 25_001, 999_999, 1_000_000, 1_000_001] {
+            let exact = (spread / quotient) as u32;
+            for duty in exact.saturating_sub(2)..=exact + 2 {
+                hold_wait([3, 0, duty, ontime], &"beside a limit of the wait");
+                if (LEAST_DUTY..=MOST_DUTY).contains(&duty) {
+                    held[match ccalls::wait(3, 0, duty, ontime).wait {
+                        25_000 => 0,
+                        1_000_000 => 2,
+                        _ => 1,
+                    }] += 1;
+                }
+            }
+        }
+    }
+    assert!(held.iter().all(|&n| n > 1_000), "{held:?}");
+}
+
 #[test]
 fn wait_on_random_quadruples() {
     const SEED: u64 = 0x5EED_0003;
