@@ -2,10 +2,8 @@
 use Prim.Native.Nat.{ℕ, suc, _+_, _*_, _≤_}
 use mathlib.Core.{Path._≡_, Bool.true, Bool.false, List.List, List.[], List._∷_, List._++_, List.map}
 use lib.{Dec.eqb, ListN.length}
-use Rattle.rules.specs.Limits.{spare, quiet}
-use Rattle.model.specs.declared.{Packet.Packet, Last.Last, Answer.Answer, Answer.the-variants.Ready, Answer.the-variants.Sent}
-use Rattle.model.specs.{State.each, State.waitingIn, State.View, State.countsFrom, State.Call, State.poll, State.isRefused, State.sound, Gate.make, Gate.call}
-use Rattle.model.specs.Journal.{Line, Admission, Way, expiry, admission, Departure, Journal, opened, turned, atPoll, top, journalOf, airTime}
+use Rattle.rules.specs.{Limits.spare, Limits.quiet}
+use Rattle.model.specs.{declared.Packet.Packet, declared.Last.Last, declared.Answer.Answer, declared.Answer.the-variants.Ready, declared.Answer.the-variants.Sent, State.each, State.waitingIn, State.View, State.countsFrom, State.Call, State.poll, State.isRefused, State.sound, Gate.make, Gate.call, Journal.Line, Journal.Admission, Journal.Way, Journal.expiry, Journal.admission, Journal.Departure, Journal.Journal, Journal.opened, Journal.turned, Journal.atPoll, Journal.top, Journal.journalOf, Journal.airTime}
 
 unfoldable pub viewAfter : View → List Call → View
 viewAfter v [] = v
@@ -35,8 +33,7 @@ pub record Claims (profile : ℕ) (v : View) (j : Journal) : Type 0 where  -- at
   -- W-201: each count is the number of such events in the run, and "accepted equals sent plus expired plus the packets waiting"
   pub counts : v .counts ≡ countsFrom (j .offers) (length (j .admissions)) (j .expiries)
   pub adds-up : v .counts .accepted ≡ v .counts .sent + v .counts .expired + waitingIn (v .queues)
-  -- the ceiling: in any window of w µs, 100 × air time admitted ≤ 3 w + 400,000
-  pub ceiling : (from w : ℕ) → 100 * airTime from w (j .admissions) ≤ 3 * w + spare
+  pub ceiling : (from w : ℕ) → 100 * airTime from w (j .admissions) ≤ 3 * w + spare  -- in any window of w µs
   -- the floor: an accepted poll that finds an unexpired packet, the quiet time or more after every earlier admission, sends
   pub floor : (stamp : ℕ) → isRefused (call v (poll stamp) .answer) ≡ false
       → (top (atPoll j stamp .columns) ≡ [] → ⊥)

@@ -2,27 +2,19 @@
 use Prim.Native.Nat.{ℕ, _+_, _-_}
 use mathlib.Core.{Bool.Bool, Bool.cond, Bool._&&_, List.List, List.[], List._∷_, List._++_}
 use lib.Dec.{ltb, eqb}
-use Rattle.rules.specs.{Profiles.profile3, Profiles.isReactive, Profiles.reactiveOf, Clock.stepOf, Samples.probes, Samples.busyOf, Samples.loadOf}
-use Rattle.rules.specs.{Levels.wantedBy, Levels.towards, Duty.smoothedOf, Duty.dutyOf, Wait.waitOf, Wait.startOf}
-use Rattle.model.specs.declared.{Packet.Packet, Clock.Clock, Control.Control, Answer.the-variants.Taken, Answer.the-variants.Sent, Answer.the-variants.Idle, Answer.the-variants.Closed}
-use Rattle.model.specs.State.{Four, four, each, change, waitingIn, View, viewFrom, countsFrom, controlFrom, Call, words, count, offer, poll, Outcome, gives, packetFrom}
+use Rattle.rules.specs.{Profiles.profile3, Profiles.isReactive, Profiles.reactiveOf, Clock.stepOf, Samples.probes, Samples.busyOf, Samples.loadOf, Levels.wantedBy, Levels.towards, Duty.smoothedOf, Duty.dutyOf, Wait.waitOf, Wait.startOf}
+use Rattle.model.specs.{declared.Packet.Packet, declared.Clock.Clock, declared.Control.Control, declared.Answer.the-variants.Taken, declared.Answer.the-variants.Sent, declared.Answer.the-variants.Idle, declared.Answer.the-variants.Closed, State.Four, State.four, State.each, State.change, State.waitingIn, State.View, State.viewFrom, State.countsFrom, State.controlFrom, State.Call, State.words, State.count, State.offer, State.poll, State.Outcome, State.gives, State.packetFrom}
 
 abbrev pub stepped : Clock → ℕ → Clock  -- "Running time grows by each step"
 stepped c stamp = record { time = c .time + stepOf stamp (c .stamp); stamp = stamp }
 
-abbrev pub levelled : Control → ℕ → Control  -- "Each sample moves the level by at most one towards the wanted one"
-levelled k level = controlFrom (k .profile) level (k .duty) (k .smoothed) (k .kept) (k .pairing)
-
-abbrev pub keptSample : Control → ℕ → Control  -- "the 1st, 3rd, 5th sample is kept"
-keptSample k load = controlFrom (k .profile) (k .level) (k .duty) (k .smoothed) load 1
-
 abbrev pub updated : Control → ℕ → Control  -- "Each even one, with the kept one, updates and clears the kept"
 updated k smoothed = controlFrom (k .profile) (k .level) (dutyOf profile3 (k .duty) smoothed) smoothed 0 0
 
-unfoldable pub sampled : Control → ℕ → Control
+unfoldable pub sampled : Control → ℕ → Control  -- "Each sample moves the level .. towards the wanted one"; "the 1st, 3rd, 5th sample is kept"
 sampled k load =
-    cond (isReactive (k .profile)) (levelled k (towards (k .level) (wantedBy (reactiveOf (k .profile)) load)))
-    (cond (eqb (k .pairing) 1) (updated k (smoothedOf (k .smoothed) (k .kept) load)) (keptSample k load))
+    cond (isReactive (k .profile)) (controlFrom (k .profile) (towards (k .level) (wantedBy (reactiveOf (k .profile)) load)) (k .duty) (k .smoothed) (k .kept) (k .pairing))
+    (cond (eqb (k .pairing) 1) (updated k (smoothedOf (k .smoothed) (k .kept) load)) (controlFrom (k .profile) (k .level) (k .duty) (k .smoothed) load 1))
 
 abbrev pub sampledBy : View → ℕ → ℕ → View  -- "A sample expires nothing."
 sampledBy v stamp busy = viewFrom (v .live) (stepped (v .clock) stamp) (sampled (v .control) (loadOf busy)) (v .last) (v .counts) (v .queues)
@@ -37,14 +29,10 @@ keep now (p ∷ ps) = cond (unexpired now p) (p ∷ keep now ps) (keep now ps)
 abbrev pub kept : View → ℕ → Four Packet
 kept v stamp = each (keep (stepped (v .clock) stamp .time)) (v .queues)
 
-abbrev pub expiredBy : View → ℕ → ℕ  -- how many are not kept
-expiredBy v stamp = waitingIn (v .queues) - waitingIn (kept v stamp)
-
--- "first moves the clock, then removes every expired packet"; W-201: "an expiry counts at its removal"
-abbrev pub cleared : View → ℕ → View
+abbrev pub cleared : View → ℕ → View  -- "first moves the clock, then removes every expired packet"; W-201: "an expiry counts at its removal"
 cleared v stamp =
     viewFrom (v .live) (stepped (v .clock) stamp) (v .control) (v .last)
-    (countsFrom (v .counts .accepted) (v .counts .sent) (v .counts .expired + expiredBy v stamp)) (kept v stamp)
+    (countsFrom (v .counts .accepted) (v .counts .sent) (v .counts .expired + (waitingIn (v .queues) - waitingIn (kept v stamp)))) (kept v stamp)
 
 abbrev pub atBack : Packet → List Packet → List Packet
 atBack p ps = ps ++ (p ∷ [])
@@ -68,11 +56,9 @@ choiceOf [] [] [] [] = nothing
 unfoldable pub choice : Four Packet → Choice  -- "the oldest of the lowest-numbered non-empty queue"
 choice q = choiceOf (q .c0) (q .c1) (q .c2) (q .c3)
 
-abbrev pub waitNow : View → ℕ  -- "taken afresh at each poll", with the on-time of the last admitted packet
-waitNow v = waitOf (v .control .profile) (v .control .level) (v .control .duty) (v .last .ontime)
-
-abbrev pub closedFor : View → ℕ  -- W-202: "the wait now runs from admission plus that packet's on-time", where the profile says so
-closedFor v = startOf (v .control .profile) (v .last .ontime) + waitNow v
+-- the wait, "taken afresh at each poll", with the on-time of the last admitted packet; W-202: it "runs from admission plus that packet's on-time"
+abbrev pub closedFor : View → ℕ
+closedFor v = startOf (v .control .profile) (v .last .ontime) + waitOf (v .control .profile) (v .control .level) (v .control .duty) (v .last .ontime)
 
 abbrev pub sinceLast : View → ℕ
 sinceLast v = v .clock .time - v .last .at
@@ -92,6 +78,5 @@ polled v (chosen p left) = cond (closed v) (gives v (Closed (closedFor v - since
 unfoldable pub effect : View → Call → Outcome
 effect v (words stamp ws) = gives (sampledBy v stamp (busyOf ws probes)) Taken
 effect v (count stamp busy) = gives (sampledBy v stamp busy) Taken
-effect v (offer stamp id priority ontime lifetime) =
-    gives (joined (cleared v stamp) (packetFrom id priority ontime lifetime (stepped (v .clock) stamp .time))) Taken
+effect v (offer stamp id priority ontime lifetime) = gives (joined (cleared v stamp) (packetFrom id priority ontime lifetime (stepped (v .clock) stamp .time))) Taken
 effect v (poll stamp) = polled (cleared v stamp) (choice (cleared v stamp .queues))

@@ -2,10 +2,8 @@
 use Prim.Native.Nat.{ℕ}
 use mathlib.Core.{Path._≡_, Bool.true, Bool.not, Bool.cond, List.List, List.[], List._∷_}
 use lib.{Dec.ltb, Dec.leb, Dec.eqb, ListN.length}
-use Rattle.rules.specs.{Profiles.isProfile, Profiles.ontimeAllowed, Profiles.lifetimeAllowed, Profiles.room, Profiles.mostOffers, Clock.stepOf, Clock.goesBack, Clock.passesEnd, Samples.goodWords, Samples.badCount}
-use Rattle.rules.specs.Refusals.{Check, check, firstOf, FirstHolds}
-use Rattle.model.specs.State.{column, View, fresh, notLive, Call, words, count, offer, poll, stampOf, Outcome, gives, isRefused}
-use Rattle.model.specs.{declared.Answer.the-variants.Ready, declared.Answer.the-variants.Refused, State.sound, Effects.stepped, Effects.cleared, Effects.effect}
+use Rattle.rules.specs.{Profiles.isProfile, Profiles.ontimeAllowed, Profiles.lifetimeAllowed, Profiles.room, Profiles.mostOffers, Clock.stepOf, Clock.goesBack, Clock.passesEnd, Samples.goodWords, Samples.badCount, Refusals.Check, Refusals.check, Refusals.firstOf, Refusals.FirstHolds}
+use Rattle.model.specs.{State.column, State.View, State.fresh, State.notLive, State.Call, State.words, State.count, State.offer, State.poll, State.stampOf, State.Outcome, State.gives, State.isRefused, declared.Answer.the-variants.Ready, declared.Answer.the-variants.Refused, State.sound, Effects.stepped, Effects.cleared, Effects.effect}
 
 abbrev pub ownChecks : View → Call → List Check  -- BAD-SAMPLE; BAD-PRIORITY, BAD-ON-TIME, BAD-LIFETIME, QUEUE-FULL ("at the new time"), SPENT
 ownChecks v (words stamp ws) = check 4 (not (goodWords ws)) ∷ []

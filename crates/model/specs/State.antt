@@ -3,8 +3,7 @@ use Prim.Native.Nat.{ℕ, zero, suc, _+_}
 use mathlib.Core.{Bool.Bool, Bool.true, Bool.cond, Bool._&&_, List.List, List.[], List._∷_}
 use lib.{Dec.leb, Dec.eqb, ListN.length}
 use Rattle.rules.specs.{Clock.endOfTime, Profiles.profile3, Profiles.fullLoad, Profiles.topLevel, Profiles.isProfile, Profiles.dutyAllowed, Profiles.ontimeAllowed, Profiles.lifetimeAllowed, Profiles.room, Profiles.mostOffers}
-use Rattle.model.specs.declared.{Packet.Packet, Clock.Clock, Control.Control, Last.Last, Counts.Counts, Reply.Reply, Answer.Answer}
-use Rattle.model.specs.declared.Answer.the-variants.{Ready, Taken, Sent, Idle, Closed, Refused}
+use Rattle.model.specs.{declared.Packet.Packet, declared.Clock.Clock, declared.Control.Control, declared.Last.Last, declared.Counts.Counts, declared.Reply.Reply, declared.Answer.Answer, declared.Answer.the-variants.Ready, declared.Answer.the-variants.Taken, declared.Answer.the-variants.Sent, declared.Answer.the-variants.Idle, declared.Answer.the-variants.Closed, declared.Answer.the-variants.Refused}
 
 -- four lists, one a priority: the gate's queues, and the columns of the journal; nothing here looks into an element
 pub record Four (A : Type 0) : Type 0 where
@@ -43,19 +42,16 @@ pub record View : Type 0 where  -- the state; live is 1 or 0, as every yes-or-no
   pub queues : Four Packet
 
 abbrev pub viewFrom : ℕ → Clock → Control → Last → Counts → Four Packet → View
-viewFrom live clock control last counts queues =
-    record { live = live; clock = clock; control = control; last = last; counts = counts; queues = queues }
+viewFrom live clock control last counts queues = record { live = live; clock = clock; control = control; last = last; counts = counts; queues = queues }
 
 abbrev pub countsFrom : (accepted sent expired : ℕ) → Counts
 countsFrom accepted sent expired = record { accepted = accepted; sent = sent; expired = expired }
 
 abbrev pub blankView : ℕ → Clock → Control → View  -- with nothing admitted, counted or waiting
-blankView live clock control =
-    viewFrom live clock control (record { at = 0; ontime = 0; any = 0 }) (countsFrom 0 0 0) (four [] [] [] [])
+blankView live clock control = viewFrom live clock control (record { at = 0; ontime = 0; any = 0 }) (countsFrom 0 0 0) (four [] [] [] [])
 
 abbrev pub controlFrom : (profile level duty smoothed kept pairing : ℕ) → Control
-controlFrom profile level duty smoothed kept pairing =
-    record { profile = profile; level = level; duty = duty; smoothed = smoothed; kept = kept; pairing = pairing }
+controlFrom profile level duty smoothed kept pairing = record { profile = profile; level = level; duty = duty; smoothed = smoothed; kept = kept; pairing = pairing }
 
 abbrev pub fresh : ℕ → ℕ → View  -- "A fresh state: live, last stamp as given to make, running time 0, level 0, duty 600,000, .."
 fresh profile stamp = blankView 1 (record { time = 0; stamp = stamp }) (controlFrom profile 0 (profile3 .leastduty) 0 0 0)
@@ -78,8 +74,7 @@ lastRules profile now l =
     leb (l .any) 1 ∷ leb (l .at) now
     ∷ cond (eqb (l .any) 1) (ontimeAllowed profile (l .ontime)) (eqb (l .at) 0 && eqb (l .ontime) 0) ∷ []
 
--- "every waiting packet within its limits, in its own priority's queue, arrived not after the running time, arrivals
--- .. not decreasing": since is the arrival of the packet before it
+-- "every waiting packet within its limits, in its own priority's queue, .. arrivals not decreasing": since is that of the one before it
 abbrev pub packetRules : ℕ → ℕ → ℕ → ℕ → Packet → List Bool
 packetRules profile now priority since p =
     eqb (p .priority) priority ∷ ontimeAllowed profile (p .ontime) ∷ lifetimeAllowed (p .lifetime)
@@ -87,8 +82,7 @@ packetRules profile now priority since p =
 
 unfoldable pub inOrder : ℕ → ℕ → ℕ → ℕ → List Packet → Bool
 inOrder profile now priority since [] = true
-inOrder profile now priority since (p ∷ ps) =
-    allOf (packetRules profile now priority since p) && inOrder profile now priority (p .arrival) ps
+inOrder profile now priority since (p ∷ ps) = allOf (packetRules profile now priority since p) && inOrder profile now priority (p .arrival) ps
 
 unfoldable pub queueSound : ℕ → ℕ → ℕ → List Packet → Bool  -- "every queue length at most 5", and its packets
 queueSound profile now priority ps = leb (length ps) room && inOrder profile now priority 0 ps
@@ -100,10 +94,8 @@ abbrev pub viewRules : View → List Bool
 viewRules v =
     eqb (v .live) 1 ∷ allOf (controlRules (v .control)) ∷ leb (v .clock .time) endOfTime
     ∷ allOf (lastRules (v .control .profile) (v .clock .time) (v .last))
-    ∷ queueSound (v .control .profile) (v .clock .time) 0 (v .queues .c0)
-    ∷ queueSound (v .control .profile) (v .clock .time) 1 (v .queues .c1)
-    ∷ queueSound (v .control .profile) (v .clock .time) 2 (v .queues .c2)
-    ∷ queueSound (v .control .profile) (v .clock .time) 3 (v .queues .c3)
+    ∷ queueSound (v .control .profile) (v .clock .time) 0 (v .queues .c0) ∷ queueSound (v .control .profile) (v .clock .time) 1 (v .queues .c1)
+    ∷ queueSound (v .control .profile) (v .clock .time) 2 (v .queues .c2) ∷ queueSound (v .control .profile) (v .clock .time) 3 (v .queues .c3)
     ∷ allOf (countRules (waitingIn (v .queues)) (v .counts)) ∷ []
 
 unfoldable pub sound : View → Bool
@@ -129,8 +121,7 @@ abbrev pub gives : View → Answer → Outcome
 gives v a = record { view = v; answer = a }
 
 abbrev pub packetFrom : (id priority ontime lifetime arrival : ℕ) → Packet
-packetFrom id priority ontime lifetime arrival =
-    record { id = id; priority = priority; ontime = ontime; lifetime = lifetime; arrival = arrival }
+packetFrom id priority ontime lifetime arrival = record { id = id; priority = priority; ontime = ontime; lifetime = lifetime; arrival = arrival }
 
 abbrev pub reply : ℕ → ℕ → Packet → Reply
 reply kind number p = record { packet = p; number = number; kind = kind }
