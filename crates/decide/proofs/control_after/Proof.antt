@@ -1,3 +1,4 @@
+-- A reactive profile steps its level; profile 3 keeps the first sample of a pair and updates at the second.
 use mathlib.Core.Path.{sym, _∙_}
 use borrow.Author.Needs.{needs}
 use borrow.Author.Tests.{eq-eqb, ne-eqb}

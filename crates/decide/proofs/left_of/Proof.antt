@@ -1,3 +1,4 @@
+-- A last admission of a sound state is no later than now, and its closed time fits; what is left of it is the difference, or nothing.
 use native.Mathlib.Omega.{arith}
 use borrow.Author.Needs.{needs}
 use borrow.Author.Tests.{eq-eqb, ne-eqb}
