@@ -1,20 +1,11 @@
 //! Random numbers that no call refuses, made before anything is timed. The same in every run.
 
+use crate::draw::Draw;
+
 /// Inputs for each call: more than a branch predictor learns by heart.
 const INPUTS: usize = 1 << 15;
 
-/// A small generator (xorshift).
-struct Draw(u64);
-
 impl Draw {
-    /// A number from `low` to `high`.
-    fn between(&mut self, low: u32, high: u32) -> u32 {
-        self.0 ^= self.0 << 13;
-        self.0 ^= self.0 >> 7;
-        self.0 ^= self.0 << 17;
-        low + ((self.0 >> 32) % u64::from(high - low + 1)) as u32
-    }
-
     fn load(&mut self) -> u32 {
         self.between(0, 1_000_000)
     }
@@ -25,7 +16,7 @@ impl Draw {
 }
 
 fn many<const N: usize>(one: impl Fn(&mut Draw) -> [u32; N]) -> Vec<[u32; N]> {
-    let mut draw = Draw(0x9E37_79B9_7F4A_7C15);
+    let mut draw = Draw::new();
     (0..INPUTS).map(|_| one(&mut draw)).collect()
 }
 

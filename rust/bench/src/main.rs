@@ -3,6 +3,7 @@
 //! Both sides have the same calling convention, the same loop around them and the same inputs, in the
 //! same run. Rounds of the two take turns, so that a busy machine slows both; the medians are printed.
 
+mod draw;
 mod inputs;
 mod peers;
 

@@ -1,21 +1,13 @@
 //! Writes a call log to measure `replay` with: a make of profile 2, then random samples, offers and polls as
 //! 1 : 2 : 3. The same for the same number of records, which is the one argument.
 
+#[path = "../draw.rs"]
+mod draw;
+
 use std::env;
 use std::io::{self, BufWriter, Write};
 
-/// A small generator (xorshift).
-struct Draw(u64);
-
-impl Draw {
-    /// A number from `low` to `high`.
-    fn between(&mut self, low: u32, high: u32) -> u32 {
-        self.0 ^= self.0 << 13;
-        self.0 ^= self.0 >> 7;
-        self.0 ^= self.0 << 17;
-        low + ((self.0 >> 32) % u64::from(high - low + 1)) as u32
-    }
-}
+use draw::Draw;
 
 /// A record as four little-endian words: the first has kind, priority and on-time.
 fn words([kind, priority, ontime, lifetime, id, stamp]: [u32; 6]) -> [u32; 4] {
@@ -32,7 +24,7 @@ fn main() -> io::Result<()> {
     let count = env::args().nth(1).and_then(|word| word.parse::<u64>().ok());
     let count = count.expect("usage: mixed_log RECORDS >LOG");
     let mut out = BufWriter::new(io::stdout().lock());
-    let mut draw = Draw(0x9E37_79B9_7F4A_7C15);
+    let mut draw = Draw::new();
     let mut stamp = 0u32;
     for i in 0..count {
         stamp = stamp.wrapping_add(draw.between(0, 60_000));
