@@ -22,7 +22,7 @@ demo: demo-build
 	@echo 'A jam. A roadworks trailer wants to warn drivers, but its radio channel is 90 to 100 % busy, and stays so.'
 	@echo 'Polite radios back off. Presscurlew does too, and still promises two things, however loud the neighbours are:'
 	@echo '  ceiling   it is on air for at most 34 ms in any second: 3 %, and one longest packet of 4 ms'
-	@echo '  floor     it never falls silent: if a packet waits, the first poll a second after the last one sends it'
+	@echo '  floor     it never falls silent: a poll that finds a packet 1.001 s or more after the last one sends it'
 	@echo
 	@echo 'Below, each call that the trailer made and the answer of $(REPLAY).'
 	@echo 'Warnings have priority 0. Left out: samples, and polls that found the gate closed.'
