@@ -48,7 +48,7 @@ pub record SoundView (v : View) : Type 0 where
   pub counts : SoundCounts (waitingIn (v .queues)) (v .counts)
 
 -- the tests say these facts, and no more
-test-control : (k : Control) → allOf (controlRules k) ≡ true → SoundControl k
+pub test-control : (k : Control) → allOf (controlRules k) ≡ true → SoundControl k
 test-control k e =
     let h = all-true (controlRules k) e in
     record {
@@ -65,7 +65,7 @@ control-test : (k : Control) → SoundControl k → allOf (controlRules k) ≡ t
 control-test k h =
     rw (h .profile, le-leb _ _ (h .level), h .duty, le-leb _ _ (h .smoothed), le-leb _ _ (h .kept), le-leb _ _ (h .flag), h .pairing)
 
-test-last : (profile now : ℕ) (l : Last) → allOf (lastRules profile now l) ≡ true → SoundLast profile now l
+pub test-last : (profile now : ℕ) (l : Last) → allOf (lastRules profile now l) ≡ true → SoundLast profile now l
 test-last profile now l e =
     let h = all-true (lastRules profile now l) e in
     record { flag = omega (tested, h .0); past = omega (tested, h .1 .0); fields = h .1 .1 .0 }
