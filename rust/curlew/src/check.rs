@@ -2,8 +2,6 @@
 
 use std::io::{self, BufWriter, StdoutLock, Write};
 
-use reference::state::Counts;
-
 use crate::args::CheckWish;
 use crate::fault::Fault;
 use crate::follow::{follow, refusal_name, size, Hearer, Row, Run};
@@ -121,16 +119,12 @@ fn calls(run: &Run) -> String {
 }
 
 fn counts(run: &Run) -> String {
-    let Counts {
-        accepted,
-        sent,
-        expired,
-    } = run.book.counts();
+    let counts = run.book.counts();
     format!(
         "KEPT. {} accepted = {} sent + {} expired + {} waiting at the end. They add up at every record.",
-        grouped(accepted),
-        grouped(sent),
-        grouped(expired),
+        grouped(counts.accepted),
+        grouped(counts.sent),
+        grouped(counts.expired),
         grouped(run.book.waiting())
     )
 }

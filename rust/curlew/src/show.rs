@@ -5,7 +5,7 @@ use std::io::{self, BufWriter, StdoutLock, Write};
 
 use reference::log::Record;
 use reference::rules;
-use reference::state::{Counts, State};
+use reference::state::State;
 
 use crate::fault::Fault;
 use crate::follow::{follow, refusal_name, Hearer, Row, Run};
@@ -178,12 +178,8 @@ fn three<T: Display>([accepted, sent, expired]: [T; 3]) -> String {
 
 /// How many packets were accepted, sent and expired.
 fn counts(run: &Run) -> String {
-    let Counts {
-        accepted,
-        sent,
-        expired,
-    } = run.book.counts();
-    three([accepted, sent, expired].map(grouped))
+    let counts = run.book.counts();
+    three([counts.accepted, counts.sent, counts.expired].map(grouped))
 }
 
 /// How many wait in each queue.

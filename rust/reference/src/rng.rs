@@ -1,15 +1,24 @@
-//! A small number generator for tests: the same seed gives the same numbers.
+//! A small number generator for tests: the same seed gives the same numbers, and a test that fails says its seed.
 
 /// The generator (splitmix64).
 #[derive(Clone, Debug)]
 pub struct Rng {
+    seed: u64,
     state: u64,
+}
+
+impl Drop for Rng {
+    fn drop(&mut self) {
+        if std::thread::panicking() {
+            eprintln!("its random numbers are those of seed {:#x}", self.seed);
+        }
+    }
 }
 
 impl Rng {
     /// A generator from a seed.
     pub fn new(seed: u64) -> Rng {
-        Rng { state: seed }
+        Rng { seed, state: seed }
     }
 
     /// The next number, any u64.
