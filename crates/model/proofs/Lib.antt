@@ -1,13 +1,13 @@
 -- Demand 3, from its parts up: windows, columns and turns by themselves; refusals; sound views; what ties a view to the
 -- journal; runs. Last, the definitions run on document 01's examples.
 pub mod Cases
-pub mod Tests
 pub mod Fours
 pub mod Window
 pub mod Columns
 pub mod Turns
 pub mod Refusals
 pub mod Profile
+pub mod Orders
 pub mod SoundQueues
 pub mod Counting
 pub mod Sound
@@ -20,5 +20,7 @@ pub mod DeliveryLines
 pub mod DeliveryPast
 pub mod DeliverySteps
 pub mod Delivery
+pub mod Sampling
+pub mod Computing
 pub mod SampleLog
 pub mod DeliveryExample

@@ -7,57 +7,58 @@ use native.Mathlib.Omega.{arith}
 use lib.Dec.{eqb}
 use borrow.Author.Tests.{eqb-true, eqb-false}
 use Rattle.rules.specs.Refusals.{firstOf, FirstHolds, NoneHolds}
-use Rattle.rules.proofs.Cases.{on-cond}
+use Rattle.rules.proofs.Cases.{on-cond, clash}
 use Rattle.rules.proofs.Refusals.{Numbered, first-of, of-first, first-numbered, of-none}
 use Rattle.model.specs.declared.Answer.the-variants.{Refused}
-use Rattle.model.specs.State.{isRefused, View, Outcome, gives, Call, words, count, offer, poll}
-use Rattle.model.specs.Effects.{Choice, nothing, chosen, choice, closed, cleared, polled, effect}
+use Rattle.model.specs.Calls.{isRefused, Call, words, count, offer, poll}
+use Rattle.model.specs.Effects.{Result, result, closed, refreshed, polled, effect}
+use Rattle.model.specs.Packets.{Holding, Chosen, nothing, chosen}
+use Rattle.model.specs.State.{Status}
 use Rattle.model.specs.Gate.{checks, call, RefusalsChangeNothing, RefusalsAreExact}
-use Rattle.model.proofs.Cases.{clash}
 
 -- no effect is a refusal
-abbrev Accepts : Outcome → Type 0
+abbrev Accepts : {h : Holding} → Result h → Type 0
 Accepts o = isRefused (o .answer) ≡ false
 
-polled-accepts : (v : View) (c : Choice) → Accepts (polled v c)
+polled-accepts : {h : Holding} (v : Status h) (c : Chosen (h .Held)) → Accepts (polled v c)
 polled-accepts v nothing = refl
 polled-accepts v (chosen p left) = on-cond Accepts (closed v) (λ e. refl) (λ e. refl)
 
-pub effect-accepts : (v : View) (c : Call) → isRefused (effect v c .answer) ≡ false
+pub effect-accepts : {h : Holding} (v : Status h) (c : Call) → isRefused (effect v c .answer) ≡ false
 unfolding effect
 effect-accepts v (words stamp ws) = refl
 effect-accepts v (count stamp busy) = refl
-effect-accepts v (offer stamp id priority ontime lifetime) = refl
-effect-accepts v (poll stamp) = polled-accepts (cleared v stamp) (choice (cleared v stamp .queues))
+effect-accepts v (offer stamp o) = refl
+effect-accepts {h} v (poll stamp) = polled-accepts (refreshed v stamp) (h .next (refreshed v stamp .waiting))
 
-pub refusals-change-nothing : RefusalsChangeNothing
+pub refusals-change-nothing : {h : Holding} → RefusalsChangeNothing h
 unfolding call
-refusals-change-nothing v c =
-    on-cond (λ (o : Outcome). isRefused (o .answer) ≡ true → o .view ≡ v) (eqb (firstOf (checks v c)) 0)
+refusals-change-nothing {h} v c =
+    on-cond (λ (o : Result h). isRefused (o .answer) ≡ true → o .view ≡ v) (eqb (firstOf (checks v c)) 0)
     (λ e r. clash (cc (effect-accepts v c)))
     (λ e r. cc)
 
 -- no check has the number 0
-pub numbered : (v : View) (c : Call) → Numbered (checks v c)
+pub checks-numbered : {h : Holding} (v : Status h) (c : Call) → Numbered (checks v c)
 unfolding checks
-numbered v (words stamp ws) = omega arith
-numbered v (count stamp busy) = omega arith
-numbered v (offer stamp id priority ontime lifetime) = omega arith
-numbered v (poll stamp) = omega arith
+checks-numbered v (words stamp ws) = omega arith
+checks-numbered v (count stamp busy) = omega arith
+checks-numbered v (offer stamp o) = omega arith
+checks-numbered v (poll stamp) = omega arith
 
-abbrev Exactly : View → Call → ℕ → Outcome → Type 0
+abbrev Exactly : {h : Holding} → Status h → Call → ℕ → Result h → Type 0
 Exactly v c n o = (o .answer ≡ Refused n → FirstHolds n (checks v c)) × (FirstHolds n (checks v c) → o .answer ≡ Refused n)
 
 positive : (n : ℕ) → (n ≡ 0 → ⊥) → 0 < n
 positive n h = omega arith
 
-pub refusals-are-exact : RefusalsAreExact
+pub refusals-are-exact : {h : Holding} → RefusalsAreExact h
 unfolding call
 refusals-are-exact v c n =
     on-cond (Exactly v c n) (eqb (firstOf (checks v c)) 0)
     (λ e. (
       λ r. clash (cc (effect-accepts v c)),
-      λ h. absurd (omega (arith, eqb-true, first-of n (checks v c) h, first-numbered n (checks v c) (numbered v c) h)),
+      λ h. absurd (omega (arith, eqb-true, first-of n (checks v c) h, first-numbered n (checks v c) (checks-numbered v c) h)),
     ))
     (λ e. (
       λ r. let same : firstOf (checks v c) ≡ n = cc in
@@ -66,10 +67,10 @@ refusals-are-exact v c n =
     ))
 
 -- what holds of the effect, where every check is passed, and of a refusal that changes nothing, holds of the call
-pub on-call : (P : Outcome → Type 0) (v : View) (c : Call) → (NoneHolds (checks v c) → P (effect v c))
-    → ((n : ℕ) → P (gives v (Refused n))) → P (call v c)
+pub on-call : {h : Holding} (P : Result h → Type 0) (v : Status h) (c : Call) → (NoneHolds (checks v c) → P (effect v c))
+    → ((n : ℕ) → P (result v (Refused n))) → P (call v c)
 unfolding call
 on-call P v c f g =
     on-cond P (eqb (firstOf (checks v c)) 0)
-    (λ e. f (of-none (checks v c) (numbered v c) (eqb-true _ _ e)))
+    (λ e. f (of-none (checks v c) (checks-numbered v c) (eqb-true _ _ e)))
     (λ e. g _)

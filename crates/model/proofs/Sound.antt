@@ -6,65 +6,50 @@ use mathlib.Core.List.{List}
 use native.Mathlib.Omega.{arith}
 use lib.Dec.{eqb}
 use borrow.Author.Tests.{le-leb, eq-eqb}
-use Rattle.rules.specs.Profiles.{fullLoad, topLevel, isProfile, ontimeAllowed, dutyAllowed, mostOffers}
+use Rattle.rules.specs.Tests.{allOf}
+use Rattle.rules.specs.Profiles.{ontimeAllowed, mostOffers}
 use Rattle.rules.specs.Clock.{passesEnd, endOfTime}
 use Rattle.rules.specs.Refusals.{NoneHolds}
+use Rattle.rules.proofs.Tests.{tested, all-true}
+use Rattle.control.specs.Owed.{Allowed}
+use Rattle.control.proofs.Controls.{SoundControl, test-control, control-test}
 use Rattle.model.specs.declared.Packet.{Packet}
-use Rattle.model.specs.declared.Control.{Control}
 use Rattle.model.specs.declared.Last.{Last}
 use Rattle.model.specs.declared.Counts.{Counts}
-use Rattle.model.specs.State.{waitingIn, View, viewFrom, Call, stampOf, allOf, controlRules, lastRules, countRules, viewRules, sound}
-use Rattle.model.specs.Effects.{stepped, keep, cleared, choice}
+use Rattle.model.specs.Packets.{withoutExpired}
+use Rattle.model.specs.Fours.{Four, howMany}
+use Rattle.model.specs.Queues.{queueRules, choice}
+use Rattle.model.specs.Calls.{Call, stampOf}
+use Rattle.model.specs.State.{View, lastRules, countRules, statusRules, sound}
+use Rattle.model.specs.Effects.{stepped, moved, expired, refreshed}
 use Rattle.model.specs.Gate.{checks}
-use Rattle.model.proofs.Tests.{tested, all-true}
 use Rattle.model.proofs.Fours.{Fours, fours-each}
-use Rattle.model.proofs.Counting.{waiting-kept}
-use Rattle.model.proofs.SoundQueues.{Queued, test-queued, queued-test, queued-later, queued-keep, queued-tail, OfChoice, of-choice}
-
-pub record SoundControl (k : Control) : Type 0 where
-  pub profile : isProfile (k .profile) ≡ true
-  pub level : k .level ≤ topLevel
-  pub duty : dutyAllowed (k .duty) ≡ true
-  pub smoothed : k .smoothed ≤ fullLoad
-  pub kept : k .kept ≤ fullLoad
-  pub flag : k .pairing ≤ 1
-  pub pairing : cond (eqb (k .pairing) 1) (eqb (k .profile) 3) (eqb (k .kept) 0) ≡ true
+use Rattle.model.proofs.Counting.{many-expired}
+use Rattle.model.proofs.SoundQueues.{Queued, test-queued, queued-test, queued-later, queued-expired, queued-tail, OfChoice}
+use Rattle.model.proofs.SoundQueues.{of-choice}
 
 pub record SoundLast (profile now : ℕ) (l : Last) : Type 0 where
-  pub flag : l .any ≤ 1
+  pub flag : l .admitted ≤ 1
   pub past : l .at ≤ now
-  pub fields : cond (eqb (l .any) 1) (ontimeAllowed profile (l .ontime)) (eqb (l .at) 0 && eqb (l .ontime) 0) ≡ true
+  pub fields :
+      cond (eqb (l .admitted) 1) (ontimeAllowed profile (l .ontime)) (eqb (l .at) 0 && eqb (l .ontime) 0) ≡ true
 
 pub record SoundCounts (waiting : ℕ) (c : Counts) : Type 0 where
   pub sum : c .accepted ≡ c .sent + c .expired + waiting
   pub most : c .accepted ≤ mostOffers
+
+abbrev pub SoundQueues : (profile now : ℕ) → Four Packet → Type 0
+SoundQueues profile now q = Fours (Queued profile now) q
 
 pub record SoundView (v : View) : Type 0 where
   pub live : eqb (v .live) 1 ≡ true
   pub control : SoundControl (v .control)
   pub time : v .clock .time ≤ endOfTime
   pub last : SoundLast (v .control .profile) (v .clock .time) (v .last)
-  pub queues : Fours (Queued (v .control .profile) (v .clock .time)) (v .queues)
-  pub counts : SoundCounts (waitingIn (v .queues)) (v .counts)
+  pub queues : SoundQueues (v .control .profile) (v .clock .time) (v .waiting)
+  pub counts : SoundCounts (howMany (v .waiting)) (v .counts)
 
 -- the tests say these facts, and no more
-pub test-control : (k : Control) → allOf (controlRules k) ≡ true → SoundControl k
-test-control k e =
-    let h = all-true (controlRules k) e in
-    record {
-      profile = h .0;
-      level = omega (tested, h .1 .0);
-      duty = h .1 .1 .0;
-      smoothed = omega (tested, h .1 .1 .1 .0);
-      kept = omega (tested, h .1 .1 .1 .1 .0);
-      flag = omega (tested, h .1 .1 .1 .1 .1 .0);
-      pairing = h .1 .1 .1 .1 .1 .1 .0;
-    }
-
-control-test : (k : Control) → SoundControl k → allOf (controlRules k) ≡ true
-control-test k h =
-    rw (h .profile, le-leb _ _ (h .level), h .duty, le-leb _ _ (h .smoothed), le-leb _ _ (h .kept), le-leb _ _ (h .flag), h .pairing)
-
 pub test-last : (profile now : ℕ) (l : Last) → allOf (lastRules profile now l) ≡ true → SoundLast profile now l
 test-last profile now l e =
     let h = all-true (lastRules profile now l) e in
@@ -81,22 +66,35 @@ test-counts waiting c e =
 counts-test : (waiting : ℕ) (c : Counts) → SoundCounts waiting c → allOf (countRules waiting c) ≡ true
 counts-test waiting c h = rw (eq-eqb _ _ (h .sum), le-leb _ _ (h .most))
 
+test-queues : (profile now : ℕ) (q : Four Packet) → allOf (queueRules profile now q) ≡ true → SoundQueues profile now q
+test-queues profile now q e =
+    let h = all-true (queueRules profile now q) e in (
+      test-queued profile now 0 (q .c0) (h .0),
+      test-queued profile now 1 (q .c1) (h .1 .0),
+      test-queued profile now 2 (q .c2) (h .1 .1 .0),
+      test-queued profile now 3 (q .c3) (h .1 .1 .1 .0),
+    )
+
+queues-test : (profile now : ℕ) (q : Four Packet) → SoundQueues profile now q → allOf (queueRules profile now q) ≡ true
+queues-test profile now q h =
+    rw (
+      queued-test profile now 0 (q .c0) (h .0),
+      queued-test profile now 1 (q .c1) (h .1),
+      queued-test profile now 2 (q .c2) (h .2),
+      queued-test profile now 3 (q .c3) (h .3),
+    )
+
 pub test-view : (v : View) → sound v ≡ true → SoundView v
 unfolding sound
 test-view v e =
-    let h = all-true (viewRules v) e in
+    let h = all-true (statusRules v) e in
     record {
       live = h .0;
       control = test-control (v .control) (h .1 .0);
       time = omega (tested, h .1 .1 .0);
       last = test-last (v .control .profile) (v .clock .time) (v .last) (h .1 .1 .1 .0);
-      queues = (
-        test-queued (v .control .profile) (v .clock .time) 0 (v .queues .c0) (h .1 .1 .1 .1 .0),
-        test-queued (v .control .profile) (v .clock .time) 1 (v .queues .c1) (h .1 .1 .1 .1 .1 .0),
-        test-queued (v .control .profile) (v .clock .time) 2 (v .queues .c2) (h .1 .1 .1 .1 .1 .1 .0),
-        test-queued (v .control .profile) (v .clock .time) 3 (v .queues .c3) (h .1 .1 .1 .1 .1 .1 .1 .0),
-      );
-      counts = test-counts (waitingIn (v .queues)) (v .counts) (h .1 .1 .1 .1 .1 .1 .1 .1 .0);
+      queues = test-queues (v .control .profile) (v .clock .time) (v .waiting) (h .1 .1 .1 .1 .0);
+      counts = test-counts (howMany (v .waiting)) (v .counts) (h .1 .1 .1 .1 .1 .0);
     }
 
 pub view-test : (v : View) → SoundView v → sound v ≡ true
@@ -107,22 +105,22 @@ view-test v h =
       control-test (v .control) (h .control),
       le-leb _ _ (h .time),
       last-test (v .control .profile) (v .clock .time) (v .last) (h .last),
-      queued-test (v .control .profile) (v .clock .time) 0 (v .queues .c0) (h .queues .0),
-      queued-test (v .control .profile) (v .clock .time) 1 (v .queues .c1) (h .queues .1),
-      queued-test (v .control .profile) (v .clock .time) 2 (v .queues .c2) (h .queues .2),
-      queued-test (v .control .profile) (v .clock .time) 3 (v .queues .c3) (h .queues .3),
-      counts-test (waitingIn (v .queues)) (v .counts) (h .counts),
+      queues-test (v .control .profile) (v .clock .time) (v .waiting) (h .queues),
+      counts-test (howMany (v .waiting)) (v .counts) (h .counts),
     )
 
--- the on-time of the last admission
-pub last-allowed : (profile now : ℕ) (l : Last) → SoundLast profile now l → eqb (l .any) 1 ≡ true
+-- the on-time of the last admission is one that its profile allows
+pub last-allowed : (profile now : ℕ) (l : Last) → SoundLast profile now l → eqb (l .admitted) 1 ≡ true
     → ontimeAllowed profile (l .ontime) ≡ true
 last-allowed profile now l h some = rw some at (h .fields)
 
--- the clock
-abbrev pub moved : View → ℕ → View
-moved v stamp = viewFrom (v .live) (stepped (v .clock) stamp) (v .control) (v .last) (v .counts) (v .queues)
+pub last-admits : (v : View) → SoundView v → eqb (v .last .admitted) 1 ≡ true → Allowed (v .control) (v .last .ontime)
+last-admits v h some = (
+  control-test (v .control) (h .control),
+  last-allowed (v .control .profile) (v .clock .time) (v .last) (h .last) some,
+)
 
+-- the clock
 pub moved-sound : (v : View) (stamp : ℕ) → stepped (v .clock) stamp .time ≤ endOfTime → SoundView v → SoundView (moved v stamp)
 moved-sound v stamp k h =
     record {
@@ -134,30 +132,34 @@ moved-sound v stamp k h =
           fours-each (Queued (v .control .profile) (v .clock .time)) (Queued (v .control .profile) (stepped (v .clock) stamp .time))
           (λ (ps : List Packet). ps)
           (λ n ps. queued-later (v .control .profile) (v .clock .time) (stepped (v .clock) stamp .time) n ps (omega arith))
-          (v .queues) (h .queues);
+          (v .waiting) (h .queues);
       counts = h .counts;
     }
 
 -- expiry
-pub cleared-sound : (v : View) (stamp : ℕ) → stepped (v .clock) stamp .time ≤ endOfTime → SoundView v → SoundView (cleared v stamp)
-cleared-sound v stamp k h =
-    let m = moved-sound v stamp k h in
-    let at = stepped (v .clock) stamp .time in
+expired-sound : (v : View) → SoundView v → SoundView (expired v)
+expired-sound v h =
+    let now = v .clock .time in
     record {
-      live = m .live;
-      control = m .control;
-      time = m .time;
-      last = m .last;
+      live = h .live;
+      control = h .control;
+      time = h .time;
+      last = h .last;
       queues =
-          fours-each (Queued (v .control .profile) at) (Queued (v .control .profile) at) (keep at)
-          (λ n ps. queued-keep (v .control .profile) at n at ps) (v .queues) (m .queues);
-      counts = record { sum = omega (arith, h .counts .sum, waiting-kept at (v .queues)); most = h .counts .most };
+          fours-each (Queued (v .control .profile) now) (Queued (v .control .profile) now) (withoutExpired now)
+          (λ n ps. queued-expired (v .control .profile) now n now ps) (v .waiting) (h .queues);
+      counts = record { sum = omega (arith, h .counts .sum, many-expired now (v .waiting)); most = h .counts .most };
     }
 
+pub refreshed-sound : (v : View) (stamp : ℕ) → stepped (v .clock) stamp .time ≤ endOfTime → SoundView v
+    → SoundView (refreshed v stamp)
+refreshed-sound v stamp k h = expired-sound (moved v stamp) (moved-sound v stamp k h)
+
 -- the packet that a poll chooses
-pub chosen-queued : (v : View) → SoundView v → OfChoice (Queued (v .control .profile) (v .clock .time)) (choice (v .queues))
+pub chosen-queued : (v : View) → SoundView v → OfChoice (Queued (v .control .profile) (v .clock .time)) (choice (v .waiting))
 chosen-queued v h =
-    of-choice (Queued (v .control .profile) (v .clock .time)) (queued-tail (v .control .profile) (v .clock .time)) (v .queues) (h .queues)
+    of-choice (Queued (v .control .profile) (v .clock .time)) (queued-tail (v .control .profile) (v .clock .time)) (v .waiting)
+    (h .queues)
 
 -- a call that passes its checks doesn't pass the end of time
 pub passed-time : (v : View) (c : Call) → NoneHolds (checks v c) → stepped (v .clock) (stampOf c) .time ≤ endOfTime

@@ -1,45 +1,83 @@
--- The gate on views: the first check that holds is the answer, else the call's effect (document 01, "Refusal numbers").
+-- The gate: the first check that holds is the answer, else the call's effect (document 01, "Refusal
+-- numbers").
 use Prim.Native.Nat.{ℕ}
-use mathlib.Core.{Path._≡_, Bool.true, Bool.not, Bool.cond, List.List, List.[], List._∷_}
-use lib.{Dec.ltb, Dec.leb, Dec.eqb, ListN.length}
-use Rattle.rules.specs.{Profiles.isProfile, Profiles.ontimeAllowed, Profiles.lifetimeAllowed, Profiles.room, Profiles.mostOffers, Clock.stepOf, Clock.goesBack, Clock.passesEnd, Samples.goodWords, Samples.badCount, Refusals.Check, Refusals.check, Refusals.firstOf, Refusals.FirstHolds}
-use Rattle.model.specs.{State.column, State.View, State.fresh, State.notLive, State.Call, State.words, State.count, State.offer, State.poll, State.stampOf, State.Outcome, State.gives, State.isRefused, declared.Answer.the-variants.Ready, declared.Answer.the-variants.Refused, State.sound, Effects.stepped, Effects.cleared, Effects.effect}
+use mathlib.Core.Path.{_≡_}
+use mathlib.Core.Bool.{true, not, cond}
+use mathlib.Core.List.{List, [], _∷_, _++_}
+use lib.Dec.{ltb, leb, eqb}
+use Rattle.rules.specs.Profiles.{isProfile, lastPriority, ontimeAllowed, lifetimeAllowed, room, mostOffers}
+use Rattle.rules.specs.Clock.{stepOf, goesBack, passesEnd}
+use Rattle.rules.specs.Samples.{goodWords, badCount}
+use Rattle.rules.specs.Refusals.{Check, check, firstOf, FirstHolds}
+use Rattle.model.specs.declared.Offer.{Offer}
+use Rattle.model.specs.declared.Answer.the-variants.{Ready, Refused}
+use Rattle.model.specs.Packets.{Holding}
+use Rattle.model.specs.Queues.{inQueues}
+use Rattle.model.specs.Calls.{Call, words, count, offer, poll, stampOf, Making, isRefused}
+use Rattle.model.specs.State.{Status, fresh, notLive, sound}
+use Rattle.model.specs.Effects.{Result, result, stepped, refreshed, effect}
 
-abbrev pub ownChecks : View → Call → List Check  -- BAD-SAMPLE; BAD-PRIORITY, BAD-ON-TIME, BAD-LIFETIME, QUEUE-FULL ("at the new time"), SPENT
+-- 5 BAD-PRIORITY, 6 BAD-ON-TIME, 7 BAD-LIFETIME: an offer's own numbers
+abbrev pub numberChecks : (profile : ℕ) → Offer → List Check
+numberChecks profile o =
+    check 5 (ltb lastPriority (o .priority))
+    ∷ check 6 (not (ontimeAllowed profile (o .ontime)))
+    ∷ check 7 (not (lifetimeAllowed (o .lifetime)))
+    ∷ []
+
+-- 8 QUEUE-FULL: "5 unexpired packets wait in that queue at the new time"; "11, SPENT, checked after 8"
+-- (document 02, W-201)
+abbrev pub roomChecks : (ofPriority accepted : ℕ) → List Check
+roomChecks ofPriority accepted = check 8 (leb room ofPriority) ∷ check 11 (leb mostOffers accepted) ∷ []
+
+-- "then 4, 5, 6, 7, 8 as they apply"; 4 BAD-SAMPLE
+abbrev pub ownChecks : {h : Holding} → Status h → Call → List Check
 ownChecks v (words stamp ws) = check 4 (not (goodWords ws)) ∷ []
 ownChecks v (count stamp busy) = check 4 (badCount busy) ∷ []
-ownChecks v (offer stamp id priority ontime lifetime) =
-    check 5 (ltb 3 priority)
-    ∷ check 6 (not (ontimeAllowed (v .control .profile) ontime))
-    ∷ check 7 (not (lifetimeAllowed lifetime))
-    ∷ check 8 (leb room (length (column priority (cleared v stamp .queues))))
-    ∷ check 11 (leb mostOffers (v .counts .accepted))
-    ∷ []
+ownChecks {h} v (offer stamp o) =
+    numberChecks (v .control .profile) o
+    ++ roomChecks (h .ofPriority (o .priority) (refreshed v stamp .waiting)) (v .counts .accepted)
 ownChecks v (poll stamp) = []
 
-unfoldable pub checks : View → Call → List Check  -- "Checks run 9, 2, 3, then 4, 5, 6, 7, 8 as they apply", 11 after 8: NO-STATE, CLOCK-BACK, CLOCK-END
+-- "Checks run 9, 2, 3, then ..": 9 NO-STATE, 2 CLOCK-BACK, 3 CLOCK-END
+unfoldable pub checks : {h : Holding} → Status h → Call → List Check
 checks v c =
     check 9 (not (sound v))
     ∷ check 2 (goesBack (stepOf (stampOf c) (v .clock .stamp)))
     ∷ check 3 (passesEnd (stepped (v .clock) (stampOf c) .time))
     ∷ ownChecks v c
 
-abbrev pub unlessRefused : ℕ → View → Outcome → Outcome  -- "A refusal hands back the given state unchanged, clock included."
-unlessRefused number given done = cond (eqb number 0) done (gives given (Refused number))
+-- "A refusal hands back the given state unchanged, clock included."
+abbrev pub unlessRefused : {h : Holding} → (number : ℕ) → Status h → Result h → Result h
+unlessRefused number given done = cond (eqb number 0) done (result given (Refused number))
 
-unfoldable pub make : ℕ → ℕ → Outcome  -- "Make's refusal hands back the all-zero, not live state."; 1 BAD-PROFILE
-make profile stamp = unlessRefused (firstOf (check 1 (not (isProfile profile)) ∷ [])) notLive (gives (fresh profile stamp) Ready)
+-- 1 BAD-PROFILE: "make: profile not 1 to 3"
+abbrev pub makeChecks : Making → List Check
+makeChecks m = check 1 (not (isProfile (m .profile))) ∷ []
 
-unfoldable pub call : View → Call → Outcome
+-- "Make's refusal hands back the all-zero, not live state."
+unfoldable pub makeIn : (h : Holding) → Making → Result h
+makeIn h m = unlessRefused (firstOf (makeChecks m)) notLive (result (fresh m) Ready)
+
+-- make of the gate with four queues
+abbrev pub make : Making → Result inQueues
+make m = makeIn inQueues m
+
+-- a call on a state
+unfoldable pub call : {h : Holding} → Status h → Call → Result h
 call v c = unlessRefused (firstOf (checks v c)) v (effect v c)
 
-abbrev pub RefusalsChangeNothing : Type 0  -- demand 1: a refused call changes nothing
-RefusalsChangeNothing = (v : View) (c : Call) → isRefused (call v c .answer) ≡ true → call v c .view ≡ v
+-- demand 1: "a refused call (make apart) changes nothing", whatever way packets wait
+abbrev pub RefusalsChangeNothing : Holding → Type 0
+RefusalsChangeNothing h = (v : Status h) (c : Call) → isRefused (call v c .answer) ≡ true → call v c .view ≡ v
 
-abbrev pub RefusalsAreExact : Type 0  -- demand 2: number n is answered exactly if n's check is the first of the table that holds
-RefusalsAreExact =
-    (v : View) (c : Call) (n : ℕ)
-    → ((call v c .answer ≡ Refused n → FirstHolds n (checks v c)) × (FirstHolds n (checks v c) → call v c .answer ≡ Refused n))
+-- demand 2: number n is answered exactly if n's check is the first of the table that holds
+abbrev pub RefusalsAreExact : Holding → Type 0
+RefusalsAreExact h =
+    (v : Status h) (c : Call) (n : ℕ)
+    → (call v c .answer ≡ Refused n → FirstHolds n (checks v c))
+    × (FirstHolds n (checks v c) → call v c .answer ≡ Refused n)
 
-abbrev pub CallsKeepSound : Type 0
-CallsKeepSound = (v : View) (c : Call) → sound v ≡ true → sound (call v c .view) ≡ true
+-- a call leaves a sound state sound
+abbrev pub CallsKeepSound : Holding → Type 0
+CallsKeepSound h = (v : Status h) (c : Call) → sound v ≡ true → sound (call v c .view) ≡ true

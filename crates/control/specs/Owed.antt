@@ -1,0 +1,56 @@
+-- The numbers of demand 3, and what demand 3 needs of the profiles, each by its sound controls and the
+-- on-times that it allows.
+use Prim.Native.Nat.{ℕ, _+_, _*_, _≤_}
+use mathlib.Core.Path.{_≡_}
+use mathlib.Core.Bool.{Bool, true}
+use Rattle.rules.specs.Profiles.{within, limitsOf, mostOntime, ontimeAllowed}
+use Rattle.rules.specs.Wait.{startOf}
+use Rattle.control.specs.Control.{Control, soundControl}
+use Rattle.control.specs.Wait.{closedAfter}
+
+-- the ceiling: "in any window of W µs, 100 x air time admitted ≤ 3 W + 400,000"
+abbrev pub spare : ℕ
+spare = 400000
+
+-- "gaps of at least 25,000 µs" (document 02, W-207)
+abbrev pub leastGap : ℕ
+leastGap = 25000
+
+-- the floor: a poll that finds a packet so many µs or more after every earlier admission sends. It is the
+-- longest wait, from where the wait of the longest packet starts
+unfoldable pub quiet : (profile : ℕ) → ℕ
+quiet profile = startOf profile (mostOntime profile) + limitsOf profile .mostwait
+
+-- "its floor reads 1,001,000 µs for profile 1, 1,000,500 for profile 2 and 1,000,000 for profile 3" (document
+-- 02, W-202)
+abbrev pub Floors : Type 0
+Floors = (quiet 1 ≡ 1001000) × (quiet 2 ≡ 1000500) × (quiet 3 ≡ 1000000)
+
+-- the profiles of which "Demand 3's ceiling" is claimed
+unfoldable pub claimsCeiling : (profile : ℕ) → Bool
+claimsCeiling profile = within 1 3 profile
+
+-- what every profile owes
+pub record Keeps (k : Control) (ontime : ℕ) : Type 0 where
+  -- the floor: no wait ends after the quiet time
+  pub longest : closedAfter k ontime ≤ quiet (k .profile)
+  -- admissions are so far apart
+  pub apart : leastGap ≤ closedAfter k ontime
+
+-- what a profile owes besides that claims the ceiling
+pub record KeepsCeiling (k : Control) (ontime : ℕ) : Type 0 where
+  -- an admission's air time is at most 3 % of the time to the next
+  pub spaced : 100 * ontime ≤ 3 * closedAfter k ontime
+  -- one admission by itself fits the spare
+  pub alone : 100 * ontime ≤ spare
+
+-- a sound control, and an on-time that its profile allows
+abbrev pub Allowed : Control → (ontime : ℕ) → Type 0
+Allowed k ontime = (soundControl k ≡ true) × (ontimeAllowed (k .profile) ontime ≡ true)
+
+abbrev pub AllKeep : Type 0
+AllKeep = (k : Control) (ontime : ℕ) → Allowed k ontime → Keeps k ontime
+
+abbrev pub ClaimantsKeep : Type 0
+ClaimantsKeep =
+    (k : Control) (ontime : ℕ) → Allowed k ontime → claimsCeiling (k .profile) ≡ true → KeepsCeiling k ontime

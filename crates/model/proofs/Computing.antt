@@ -1,0 +1,42 @@
+-- What a computed example opens, so that it needs to name one thing: the rules on numbers, what samples steer, a call, a run.
+use Rattle.rules.specs.Profiles.{within, reactiveOf, mostOntime, ontimeAllowed}
+use Rattle.rules.specs.Clock.{stepOf, goesBack, passesEnd}
+use Rattle.rules.specs.Refusals.{firstOf}
+use Rattle.rules.specs.Samples.{probe, busyOf, goodWords, badCount, loadOf}
+use Rattle.rules.specs.Levels.{wantedBy, towards, waitBy}
+use Rattle.rules.specs.Duty.{smoothedOf, offsetOf, dutyOf}
+use Rattle.rules.specs.Wait.{adaptiveWait, startOf}
+use Rattle.control.specs.Control.{pairingSound, soundControl, sampled}
+use Rattle.control.specs.Wait.{waitOf}
+use Rattle.control.specs.Owed.{quiet}
+use Rattle.model.specs.Packets.{withoutExpired, inOrder}
+use Rattle.model.specs.Queues.{queueSound, choice}
+use Rattle.model.specs.State.{sound}
+use Rattle.model.specs.Effects.{closed, effect}
+use Rattle.model.specs.Gate.{checks, makeIn, call}
+use Rattle.model.specs.Journal.{picked, lowest, journalOf, airTime}
+use Rattle.model.specs.Claims.{viewAfter, events}
+
+unfoldable pub of-numbers : Type 0
+unfolding within reactiveOf mostOntime ontimeAllowed stepOf goesBack passesEnd firstOf
+of-numbers = Unit {0}
+
+unfoldable pub of-samples : Type 0
+unfolding of-numbers probe busyOf goodWords badCount loadOf wantedBy towards smoothedOf offsetOf dutyOf sampled
+of-samples = Unit {0}
+
+unfoldable pub of-waits : Type 0
+unfolding of-numbers waitBy adaptiveWait startOf waitOf quiet
+of-waits = Unit {0}
+
+unfoldable pub of-soundness : Type 0
+unfolding of-numbers pairingSound soundControl inOrder queueSound sound
+of-soundness = Unit {0}
+
+unfoldable pub of-calls : Type 0
+unfolding of-samples of-waits of-soundness withoutExpired choice closed effect checks makeIn call
+of-calls = Unit {0}
+
+unfoldable pub of-runs : Type 0
+unfolding of-calls viewAfter events picked lowest journalOf airTime
+of-runs = Unit {0}
