@@ -112,21 +112,11 @@ typedef struct presscurlew_clock {
     uint32_t stamp; /* of the last call that was not refused: any number */
 } presscurlew_clock;
 
-/* What samples steer. */
-typedef struct presscurlew_control {
-    uint32_t profile;  /* 1 to 3 */
-    uint32_t level;    /* 0 to 4; profiles 1 and 2 move it */
-    uint32_t duty;     /* 600,000 to 30,000,000; profile 3 moves it */
-    uint32_t smoothed; /* the smoothed load, at most 1,000,000; profile 3 moves it */
-    uint32_t kept;     /* profile 3: the load of the first sample of a pair, at most 1,000,000; 0 if none is kept */
-    uint32_t pairing;  /* 1 while a sample is kept, else 0 */
-} presscurlew_control;
-
 /* The last admission. Before the first one all fields are 0. */
 typedef struct presscurlew_last {
-    uint64_t at;     /* the running time at which it was made; at most the running time */
-    uint32_t ontime; /* the on-time of its packet */
-    uint32_t any;    /* 1 once something was admitted, else 0 */
+    uint64_t at;       /* the running time at which it was made; at most the running time */
+    uint32_t ontime;   /* the on-time of its packet */
+    uint32_t admitted; /* 1 once something was admitted, else 0 */
 } presscurlew_last;
 
 /*
@@ -142,14 +132,24 @@ typedef struct presscurlew_counts {
     uint64_t expired;  /* packets that were removed as expired, at an offer or a poll; a sample removes none */
 } presscurlew_counts;
 
+/* What samples steer. The profile, which says how, stands beside it in the state. */
+typedef struct presscurlew_tuning {
+    uint32_t level;    /* 0 to 4; profiles 1 and 2 move it */
+    uint32_t duty;     /* 600,000 to 30,000,000; profile 3 moves it */
+    uint32_t smoothed; /* the smoothed load, at most 1,000,000; profile 3 moves it */
+    uint32_t kept;     /* profile 3: the load of the first sample of a pair, at most 1,000,000; 0 if none is kept */
+    uint32_t pairing;  /* 1 while a sample is kept, else 0 */
+} presscurlew_tuning;
+
 /* The state of one gate: 600 bytes. */
 typedef struct presscurlew_state {
     presscurlew_queue queues[4]; /* by priority */
     presscurlew_clock clock;
-    presscurlew_control control;
     presscurlew_last last;
     presscurlew_counts counts;
-    uint32_t live; /* 1; 0 in the all-zero state that a refused make hands back */
+    presscurlew_tuning tuning;
+    uint32_t profile; /* 1 to 3, as it was made; no call changes it */
+    uint32_t live;    /* 1; 0 in the all-zero state that a refused make hands back */
 } presscurlew_state;
 
 /* The kinds of answers. */

@@ -22,30 +22,30 @@ static void parts(void) {
     SIZE(clock);
     FIELD(clock, time);
     FIELD(clock, stamp);
-    SIZE(control);
-    FIELD(control, profile);
-    FIELD(control, level);
-    FIELD(control, duty);
-    FIELD(control, smoothed);
-    FIELD(control, kept);
-    FIELD(control, pairing);
     SIZE(last);
     FIELD(last, at);
     FIELD(last, ontime);
-    FIELD(last, any);
+    FIELD(last, admitted);
     SIZE(counts);
     FIELD(counts, accepted);
     FIELD(counts, sent);
     FIELD(counts, expired);
+    SIZE(tuning);
+    FIELD(tuning, level);
+    FIELD(tuning, duty);
+    FIELD(tuning, smoothed);
+    FIELD(tuning, kept);
+    FIELD(tuning, pairing);
 }
 
 static void wholes(void) {
     SIZE(state);
     FIELD(state, queues);
     FIELD(state, clock);
-    FIELD(state, control);
     FIELD(state, last);
     FIELD(state, counts);
+    FIELD(state, tuning);
+    FIELD(state, profile);
     FIELD(state, live);
     SIZE(reply);
     FIELD(reply, packet);

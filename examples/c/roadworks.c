@@ -54,7 +54,7 @@ static void hear_channel(uint64_t words[16], unsigned busy) {
 }
 
 static void sample(host *h, unsigned busy) {
-    uint32_t level = h->state.control.level;
+    uint32_t level = h->state.tuning.level;
     uint64_t words[16];
 
     hear_channel(words, busy);
@@ -62,8 +62,8 @@ static void sample(host *h, unsigned busy) {
     h->state = turn.state;
     /* The wait may be another one now, so the next poll is not put off any longer. */
     h->quiet_until = h->now;
-    if (h->state.control.level != level)
-        printf("%5" PRIu32 " ms  level %" PRIu32 "\n", since_start_ms(h), h->state.control.level);
+    if (h->state.tuning.level != level)
+        printf("%5" PRIu32 " ms  level %" PRIu32 "\n", since_start_ms(h), h->state.tuning.level);
 }
 
 static void offer(host *h, int kind) {

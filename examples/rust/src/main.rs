@@ -87,11 +87,11 @@ impl Host {
     }
 
     fn sample(&mut self, busy: usize) -> Result<(), Refusal> {
-        let level = self.gate.state().control.level;
+        let level = self.gate.state().tuning.level;
         self.gate.sample_words(&hear_channel(busy), self.now)?;
         // The wait may be another one now, so the next poll is not put off any longer.
         self.quiet_until = self.now;
-        let next = self.gate.state().control.level;
+        let next = self.gate.state().tuning.level;
         if next != level {
             self.tell(&format!("level {next}"));
         }

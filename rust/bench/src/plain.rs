@@ -27,18 +27,18 @@ pub struct State {
     pub time: u64,
     pub stamp: u32,
     pub gap: u32,
-    pub profile: u32,
+    pub at: u64,
+    pub ontime: u32,
+    pub admitted: u32,
+    pub accepted: u64,
+    pub sent: u64,
+    pub expired: u64,
     pub level: u32,
     pub duty: u32,
     pub smoothed: u32,
     pub kept: u32,
     pub pairing: u32,
-    pub at: u64,
-    pub ontime: u32,
-    pub any: u32,
-    pub accepted: u64,
-    pub sent: u64,
-    pub expired: u64,
+    pub profile: u32,
     pub live: u32,
 }
 
@@ -140,7 +140,7 @@ impl State {
 
     /// The whole soundness test.
     pub fn is_sound(&self) -> bool {
-        let control = self.live == 1
+        let tuning = self.live == 1
             && (1..=3).contains(&self.profile)
             && self.level <= 4
             && (600_000..=30_000_000).contains(&self.duty)
@@ -154,12 +154,12 @@ impl State {
         let most = most_ontime(self.profile);
         let last = self.time <= END
             && self.at <= self.time
-            && match self.any {
+            && match self.admitted {
                 0 => self.at == 0 && self.ontime == 0,
                 1 => (1..=most).contains(&self.ontime),
                 _ => false,
             };
-        control
+        tuning
             && last
             && (0..4).all(|k| self.queues[k].is_sound(k as u32, most, self.time))
             && self.adds_up()
@@ -297,7 +297,7 @@ impl State {
         let Some(k) = self.queues.iter().position(|q| q.len > 0) else {
             return Answer::Idle;
         };
-        if self.any == 1 {
+        if self.admitted == 1 {
             let (closed, passed) = (self.closed_for(), now - self.at);
             if passed < closed {
                 return Answer::Closed(closed - passed);
@@ -305,7 +305,7 @@ impl State {
         }
         let p = self.queues[k].pop();
         self.sent += 1;
-        self.any = 1;
+        self.admitted = 1;
         self.at = now;
         self.ontime = p.ontime;
         Answer::Sent(p)

@@ -164,8 +164,8 @@ fn try_flags(input: &mut Input, state: &State) {
     let flag = input.of(&[2, 3, 256, u32::MAX]).max(2);
     match input.byte() % 3 {
         0 => bent.live = flag,
-        1 => bent.control.pairing = flag,
-        _ => bent.last.any = flag,
+        1 => bent.tuning.pairing = flag,
+        _ => bent.last.admitted = flag,
     }
     hold_no_state(&bent, &input.call(state.stamp), &"flag");
 }

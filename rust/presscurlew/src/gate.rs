@@ -293,7 +293,7 @@ impl Gate {
     /// ```
     /// let mut gate = presscurlew::Gate::new(1, 0)?;
     /// gate.sample_count(700, 100_000)?;
-    /// assert_eq!(gate.state().control.level, 1);
+    /// assert_eq!(gate.state().tuning.level, 1);
     /// # Ok::<(), presscurlew::Refusal>(())
     /// ```
     pub fn state(&self) -> &sys::State {

@@ -111,24 +111,6 @@ pub struct Clock {
     pub stamp: u32,
 }
 
-/// What samples steer.
-#[repr(C)]
-#[derive(Clone, Copy, Debug, Default, PartialEq, Eq, Hash)]
-pub struct Control {
-    /// The profile, 1 to 3.
-    pub profile: u32,
-    /// The level, 0 to 4.
-    pub level: u32,
-    /// The duty, in parts per 1,000,000,000.
-    pub duty: u32,
-    /// The smoothed load, in parts per 1,000,000.
-    pub smoothed: u32,
-    /// The load of the sample that is kept, 0 if none is.
-    pub kept: u32,
-    /// 1 while a sample is kept, else 0.
-    pub pairing: u32,
-}
-
 /// The last admission. Before the first one all fields are 0.
 #[repr(C)]
 #[derive(Clone, Copy, Debug, Default, PartialEq, Eq, Hash)]
@@ -138,7 +120,7 @@ pub struct Last {
     /// The on-time of its packet.
     pub ontime: u32,
     /// 1 once something was admitted, else 0.
-    pub any: u32,
+    pub admitted: u32,
 }
 
 /// What the gate has counted since it was made: `accepted` is `sent` + `expired` + the packets that wait.
@@ -153,6 +135,22 @@ pub struct Counts {
     pub expired: u64,
 }
 
+/// What samples steer. The profile, which says how, stands beside it in the state.
+#[repr(C)]
+#[derive(Clone, Copy, Debug, Default, PartialEq, Eq, Hash)]
+pub struct Tuning {
+    /// The level, 0 to 4.
+    pub level: u32,
+    /// The duty, in parts per 1,000,000,000.
+    pub duty: u32,
+    /// The smoothed load, in parts per 1,000,000.
+    pub smoothed: u32,
+    /// The load of the sample that is kept, 0 if none is.
+    pub kept: u32,
+    /// 1 while a sample is kept, else 0.
+    pub pairing: u32,
+}
+
 /// The state of one gate. Any values at all may stand in it: the calls refuse a state that is not sound.
 #[repr(C)]
 #[derive(Clone, Copy, Debug, Default, PartialEq, Eq, Hash)]
@@ -161,12 +159,14 @@ pub struct State {
     pub queues: [Queue; 4],
     /// The clock.
     pub clock: Clock,
-    /// What samples steer.
-    pub control: Control,
     /// The last admission.
     pub last: Last,
     /// What was accepted, sent and expired.
     pub counts: Counts,
+    /// What samples steer.
+    pub tuning: Tuning,
+    /// The profile, 1 to 3; no call changes it.
+    pub profile: u32,
     /// 1; 0 in the all-zero state that a refused make hands back.
     pub live: u32,
 }

@@ -46,7 +46,7 @@ impl Broken {
         self.states.push((rule, state));
     }
 
-    fn control(&mut self, profile: u32) {
+    fn profile_and_tuning(&mut self, profile: u32) {
         let (empty, full) = (State::fresh(profile, 77), base(profile, 5));
         self.add("live", full, |s| s.live = false);
         for bad in [0, 4, 5, 1 << 31, u32::MAX] {
@@ -188,7 +188,7 @@ impl Broken {
         let mut broken = Broken::default();
         let mut rng = Rng::new(0xc0c7);
         for profile in PROFILES {
-            broken.control(profile);
+            broken.profile_and_tuning(profile);
             broken.clock_and_last(profile);
             broken.lengths(profile);
             broken.counts(State::fresh(profile, 77), &mut rng);
@@ -206,7 +206,7 @@ impl Broken {
 
 /// Every call on a state is refused with 9, whatever else is wrong with it.
 fn hold_all_calls(state: &sys::State, origin: &dyn std::fmt::Display) {
-    let profile = state.control.profile;
+    let profile = state.profile;
     for step in [0, 1_000, 1 << 31] {
         let stamp = state.clock.stamp.wrapping_add(step);
         for call in calls_at(
@@ -275,8 +275,8 @@ fn flags_above_1_are_refused_with_9() {
         for bad in [2, 3, 256, 1 << 31, u32::MAX] {
             let flags: [fn(&mut sys::State, u32); 3] = [
                 |s, flag| s.live = flag,
-                |s, flag| s.control.pairing = flag,
-                |s, flag| s.last.any = flag,
+                |s, flag| s.tuning.pairing = flag,
+                |s, flag| s.last.admitted = flag,
             ];
             for bend in flags {
                 let mut state = full;
@@ -306,7 +306,7 @@ fn states_of_no_sense_are_refused_with_9() {
             len: u64::from(fill),
             slots: [packet; 5],
         }; 4];
-        state.control.profile = fill;
+        state.profile = fill;
         let count = u64::from(fill);
         state.counts = sys::Counts {
             accepted: count,

@@ -84,20 +84,20 @@ pub fn raw(state: &State) -> sys::State {
             time: state.time,
             stamp: state.stamp,
         },
-        control: sys::Control {
-            profile: state.profile,
+        last: sys::Last {
+            at: state.at,
+            ontime: state.ontime,
+            admitted: u32::from(state.any),
+        },
+        counts: raw_counts(&state.counts),
+        tuning: sys::Tuning {
             level: state.level,
             duty: state.duty,
             smoothed: state.smoothed,
             kept: state.kept,
             pairing: u32::from(state.haskept),
         },
-        last: sys::Last {
-            at: state.at,
-            ontime: state.ontime,
-            any: u32::from(state.any),
-        },
-        counts: raw_counts(&state.counts),
+        profile: state.profile,
         live: u32::from(state.live),
     }
 }

@@ -4,7 +4,7 @@
 use std::fmt::Write;
 use std::mem::{offset_of, size_of};
 
-use presscurlew::sys::{Clock, Control, Counts, Last, Packet, Queue, Reply, State, Turn};
+use presscurlew::sys::{Clock, Counts, Last, Packet, Queue, Reply, State, Tuning, Turn};
 
 const LAYOUT: &str = include_str!("../../../../examples/c/layout.out");
 
@@ -22,10 +22,10 @@ fn structs_lie_as_c_sees_them() {
     layout!(text, "packet", Packet, id, priority, ontime, lifetime, arrival);
     layout!(text, "queue", Queue, len, slots);
     layout!(text, "clock", Clock, time, stamp);
-    layout!(text, "control", Control, profile, level, duty, smoothed, kept, pairing);
-    layout!(text, "last", Last, at, ontime, any);
+    layout!(text, "last", Last, at, ontime, admitted);
     layout!(text, "counts", Counts, accepted, sent, expired);
-    layout!(text, "state", State, queues, clock, control, last, counts, live);
+    layout!(text, "tuning", Tuning, level, duty, smoothed, kept, pairing);
+    layout!(text, "state", State, queues, clock, last, counts, tuning, profile, live);
     layout!(text, "reply", Reply, packet, number, kind);
     layout!(text, "turn", Turn, state, reply);
     assert_eq!(text, LAYOUT);

@@ -53,7 +53,7 @@ fn each_place(mut hold: impl FnMut(u32, &sys::State, u32, u32)) {
         for accepted in [5, ACCEPTED_MOST - 1, ACCEPTED_MOST] {
             let state = raw(&late(profile, accepted));
             let mut unsound = state;
-            unsound.control.level = 5;
+            unsound.tuning.level = 5;
             let mut miscounted = state;
             miscounted.counts.sent += 1;
             for (step, number) in STEPS {

@@ -15,8 +15,8 @@ fn hold_count(words: &[u64], origin: &str) {
     let fresh = sys::presscurlew_make(3, 0).state;
     let turn = sys::sample_words(fresh, words, 0);
     let mut expected = fresh;
-    expected.control.pairing = 1;
-    expected.control.kept = 1_000 * count(words);
+    expected.tuning.pairing = 1;
+    expected.tuning.kept = 1_000 * count(words);
     assert_eq!(
         (turn.state, turn.reply.kind),
         (expected, sys::TAKEN),
