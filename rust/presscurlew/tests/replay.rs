@@ -15,7 +15,11 @@ use reference::rng::Rng;
 fn program() -> PathBuf {
     let built = concat!(env!("CARGO_MANIFEST_DIR"), "/../../target/bin/replay");
     let path = env::var_os("PRESSCURLEW_REPLAY").map_or(PathBuf::from(built), PathBuf::from);
-    assert!(path.exists(), "{} is missing: run `rt check replay` first", path.display());
+    assert!(
+        path.exists(),
+        "{} is missing: run `rt check replay` first",
+        path.display()
+    );
     path
 }
 
@@ -30,12 +34,17 @@ fn replayed(input: &[u8], piece: usize) -> Vec<u8> {
     let input = input.to_vec();
     let feeder = thread::spawn(move || {
         for part in input.chunks(piece) {
-            pipe.write_all(part).expect("the program reads its input to the end");
+            pipe.write_all(part)
+                .expect("the program reads its input to the end");
         }
     });
     let output = child.wait_with_output().expect("the program ends");
     feeder.join().expect("all input was handed over");
-    assert!(output.status.success(), "the program's status is {}", output.status);
+    assert!(
+        output.status.success(),
+        "the program's status is {}",
+        output.status
+    );
     output.stdout
 }
 
@@ -59,29 +68,82 @@ fn compare(name: &str, input: &[u8], piece: usize) {
 }
 
 fn make(profile: u8, stamp: u32) -> Record {
-    Record { kind: 0, priority: profile, ontime: 0, lifetime: 0, id: 0, stamp }
+    Record {
+        kind: 0,
+        priority: profile,
+        ontime: 0,
+        lifetime: 0,
+        id: 0,
+        stamp,
+    }
 }
 
 fn poll(stamp: u32) -> Record {
-    Record { kind: 3, ..make(0, stamp) }
+    Record {
+        kind: 3,
+        ..make(0, stamp)
+    }
 }
 
 /// A record that follows a stamp: mostly good, sometimes hostile.
 fn record(rng: &mut Rng, stamp: &mut u32) -> Record {
-    let steps = [0, 1, 500, 20_000, 49_600, 100_000, 1_000_000, 70_000_000, (1 << 31) - 1, 1 << 31, u32::MAX];
-    let step = if rng.one_in(40) { rng.pick(&steps) } else { rng.below(60_000) as u32 };
+    let steps = [
+        0,
+        1,
+        500,
+        20_000,
+        49_600,
+        100_000,
+        1_000_000,
+        70_000_000,
+        (1 << 31) - 1,
+        1 << 31,
+        u32::MAX,
+    ];
+    let step = if rng.one_in(40) {
+        rng.pick(&steps)
+    } else {
+        rng.below(60_000) as u32
+    };
     let next = stamp.wrapping_add(step);
     if step < 1 << 31 {
         *stamp = next;
     }
-    let kind = if rng.one_in(300) { rng.below(256) as u8 } else { 1 + rng.below(3) as u8 };
+    let kind = if rng.one_in(300) {
+        rng.below(256) as u8
+    } else {
+        1 + rng.below(3) as u8
+    };
     let kind = if rng.one_in(4_000) { 0 } else { kind };
-    let priority = if rng.one_in(50) { rng.below(256) as u8 } else { rng.below(4) as u8 };
-    let ontime = if rng.one_in(30) { rng.next_u32() as u16 } else { 1 + rng.below(500) as u16 };
+    let priority = if rng.one_in(50) {
+        rng.below(256) as u8
+    } else {
+        rng.below(4) as u8
+    };
+    let ontime = if rng.one_in(30) {
+        rng.next_u32() as u16
+    } else {
+        1 + rng.below(500) as u16
+    };
     let lifetimes = [0, 1, 60_000_000, 60_000_001, u32::MAX];
-    let lifetime = if rng.one_in(30) { rng.pick(&lifetimes) } else { 1 + rng.below(3_000_000) as u32 };
-    let id = if kind == 1 && !rng.one_in(30) { rng.below(1_002) as u32 } else { rng.next_u32() };
-    Record { kind, priority, ontime, lifetime, id, stamp: next }
+    let lifetime = if rng.one_in(30) {
+        rng.pick(&lifetimes)
+    } else {
+        1 + rng.below(3_000_000) as u32
+    };
+    let id = if kind == 1 && !rng.one_in(30) {
+        rng.below(1_002) as u32
+    } else {
+        rng.next_u32()
+    };
+    Record {
+        kind,
+        priority,
+        ontime,
+        lifetime,
+        id,
+        stamp: next,
+    }
 }
 
 fn bytes(records: &[Record]) -> Vec<u8> {
@@ -107,12 +169,27 @@ fn random_logs() {
 
 #[test]
 fn torn_tails_and_block_boundaries() {
-    for (seed, count) in [(20, 0), (21, 1), (22, 4_095), (23, 4_096), (24, 4_097), (25, 8_192)] {
-        let whole = if count == 0 { Vec::new() } else { run(seed, count) };
+    for (seed, count) in [
+        (20, 0),
+        (21, 1),
+        (22, 4_095),
+        (23, 4_096),
+        (24, 4_097),
+        (25, 8_192),
+    ] {
+        let whole = if count == 0 {
+            Vec::new()
+        } else {
+            run(seed, count)
+        };
         for left in 0..16 {
             let mut input = whole.clone();
             input.extend((0..left).map(|b| b as u8 * 17));
-            compare(&format!("{count} records and {left} bytes"), &input, 1 << 16);
+            compare(
+                &format!("{count} records and {left} bytes"),
+                &input,
+                1 << 16,
+            );
         }
     }
 }
@@ -121,7 +198,11 @@ fn torn_tails_and_block_boundaries() {
 fn odd_pieces() {
     let input = run(31, 20_000);
     for piece in [1, 7, 15, 17, 4_096, 65_535, 65_537] {
-        let input = if piece == 1 { &input[..40_003] } else { &input[..] };
+        let input = if piece == 1 {
+            &input[..40_003]
+        } else {
+            &input[..]
+        };
         compare(&format!("pieces of {piece}"), input, piece);
     }
 }
@@ -130,7 +211,9 @@ fn odd_pieces() {
 fn noise() {
     for seed in 41..=48 {
         let mut rng = Rng::new(seed);
-        let input: Vec<u8> = (0..100_000 + rng.below(64)).map(|_| rng.next_u64() as u8).collect();
+        let input: Vec<u8> = (0..100_000 + rng.below(64))
+            .map(|_| rng.next_u64() as u8)
+            .collect();
         compare(&format!("noise, seed {seed}"), &input, 4_099);
     }
 }
@@ -174,7 +257,10 @@ fn to_the_end_of_time() {
 #[test]
 fn a_failed_read_has_no_last_line() {
     let folder = File::open(env!("CARGO_MANIFEST_DIR")).expect("the folder opens");
-    let output = Command::new(program()).stdin(folder).output().expect("the program ends");
+    let output = Command::new(program())
+        .stdin(folder)
+        .output()
+        .expect("the program ends");
     assert_eq!(output.stdout, b"");
     assert_eq!(output.stderr, b"replay: a read failed\n");
 }

@@ -193,8 +193,10 @@ fn timed<const N: usize>(run: Run, start: State, row: &[[u32; 6]]) -> f64 {
     began.elapsed().as_nanos() as f64 / row.len() as f64
 }
 
+type Timed = fn(Run, State, &[[u32; 6]]) -> f64;
+
 /// Places over a page of the stack, four at each offset in a cache line that a stack can have.
-const PLACES: [fn(Run, State, &[[u32; 6]]) -> f64; 16] = [
+const PLACES: [Timed; 16] = [
     timed::<16>,
     timed::<288>,
     timed::<560>,
