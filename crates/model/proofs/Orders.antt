@@ -23,15 +23,16 @@ pub test-order : (rule : Packet → Bool) (P : Packet → Type 0) → ((p : Pack
 unfolding inOrder
 test-order rule P f since [] e = tt
 test-order rule P f since (p ∷ ps) e =
-    let h = both (rule p) (leb since (p .arrival) && inOrder rule (p .arrival) ps) e in
-    let k = both (leb since (p .arrival)) (inOrder rule (p .arrival) ps) (h .1) in
-    (f p (h .0), omega (tested, k .0), test-order rule P f (p .arrival) ps (k .1))
+    let h = both (rule p && leb since (p .arrival)) (inOrder rule (p .arrival) ps) e in
+    let k = both (rule p) (leb since (p .arrival)) (h .0) in
+    (f p (k .0), omega (tested, k .1), test-order rule P f (p .arrival) ps (h .1))
 
 pub order-test : (rule : Packet → Bool) (P : Packet → Type 0) → ((p : Packet) → P p → rule p ≡ true) → (since : ℕ)
     (ps : List Packet) → InOrder P since ps → inOrder rule since ps ≡ true
 unfolding inOrder
 order-test rule P f since [] h = refl
-order-test rule P f since (p ∷ ps) h = rw (f p (h .0), le-leb since (p .arrival) (h .1), order-test rule P f (p .arrival) ps (h .2))
+order-test rule P f since (p ∷ ps) h =
+    rw (f p (h .0), le-leb since (p .arrival) (h .1), order-test rule P f (p .arrival) ps (h .2))
 
 -- by a weaker rule, and behind less
 pub order-more : (P Q : Packet → Type 0) → ((p : Packet) → P p → Q p) → (since less : ℕ) (ps : List Packet) → less ≤ since

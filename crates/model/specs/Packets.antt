@@ -39,7 +39,7 @@ limitRules profile now p =
 -- "arrivals .. not decreasing", and a rule for each packet; since is the arrival of the one before
 unfoldable pub inOrder : (Packet → Bool) → (since : ℕ) → List Packet → Bool
 inOrder rule since [] = true
-inOrder rule since (p ∷ ps) = rule p && (leb since (p .arrival) && inOrder rule (p .arrival) ps)
+inOrder rule since (p ∷ ps) = (rule p && leb since (p .arrival)) && inOrder rule (p .arrival) ps
 
 -- "IDLE if nothing waits"; else the packet that may go, and those that it leaves
 pub data Chosen (A : Type 0) : Type 0 where
