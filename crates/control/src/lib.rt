@@ -4,7 +4,8 @@ ghost use mathlib.Core.Path.{_≡_};
 ghost use mathlib.Core.Bool.{true};
 ghost use Prim.Native.Nat.{_≤_};
 ghost use Rattle.rules.specs.Profiles.{profile3, fullLoad};
-ghost use Rattle.control.specs.Control.{controlOf, freshTuning, pairingSound, soundControl, sampled};
+ghost use Rattle.control.specs.Control.{controlOf, freshTuning, noTuning, pairingSound, soundControl};
+ghost use Rattle.control.specs.Control.{sampled};
 ghost use Rattle.control.specs.Wait.{waitOf, closedAfter};
 
 // What samples change. `pairing` is 1 while a sample is kept, else 0.
@@ -24,6 +25,19 @@ pub fn fresh() -> Tuning
     Tuning {
         level: 0,
         duty: rules::Profile3::LEAST_DUTY,
+        smoothed: 0,
+        kept: 0,
+        pairing: 0,
+    }
+}
+
+// All zero.
+pub fn none() -> Tuning
+    ensures { λ r. ⌜ r ≡ noTuning ⌝ }
+{
+    Tuning {
+        level: 0,
+        duty: 0,
         smoothed: 0,
         kept: 0,
         pairing: 0,

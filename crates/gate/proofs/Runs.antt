@@ -1,16 +1,14 @@
 -- A sound state's call is its view's call laid out, so a run of states reads as a run of views, and demand 3 carries over.
-use Prim.Native.Nat.{ℕ, _≤_}
-use mathlib.Core.Path.{_≡_, refl, ap, ap₂, sym, _∙_, subst, subst⁻¹}
-use mathlib.Core.Bool.{Bool, true, false, cond, _&&_}
+use mathlib.Core.Path.{_≡_, refl, ap, ap₂, sym, _∙_, subst⁻¹}
+use mathlib.Core.Bool.{true}
 use mathlib.Core.List.{List, [], _∷_}
-use lib.ListN.{length}
-use Rattle.rules.proofs.Cases.{split, on-cond, both}
-use Rattle.model.specs.declared.Packet.{Packet}
+use Rattle.rules.proofs.Cases.{on-cond}
 use Rattle.model.specs.declared.Answer.{Answer}
 use Rattle.model.specs.declared.Answer.the-variants.{Ready}
-use Rattle.model.specs.State.{isRefused, Four, View, Call, allOf, sound}
-use Rattle.model.specs.State as view
-use Rattle.rules.specs.Profiles.{room}
+use Rattle.model.specs.Queues.{inQueues}
+use Rattle.model.specs.Calls.{Call, Making, isRefused}
+use Rattle.model.specs.State.{View, sound}
+use Rattle.model.specs.Effects.{Result}
 use Rattle.model.specs.Gate.{make, call}
 use Rattle.model.specs.Journal.{opened, journalOf}
 use Rattle.model.specs.Claims.{Claims, viewAfter, events}
@@ -18,28 +16,30 @@ use Rattle.model.proofs.Sound.{SoundView, test-view}
 use Rattle.model.proofs.Refusals.{refusals-change-nothing}
 use Rattle.model.proofs.KeepsSound.{calls-keep-sound}
 use Rattle.model.proofs.Demand3.{demand3}
-use Rattle.queue.specs.Layout.{packed, tidy}
 use Rattle.queue.proofs.Sound.{tidy-packed}
 use Rattle.gate.specs.declared.State.{State}
 use Rattle.gate.specs.declared.Outcome.{Outcome}
-use Rattle.gate.specs.Layout.{viewOf, stateOf, allTidy, soundState, gives, outcomeOf, callOn, makeState}
+use Rattle.gate.specs.Layout.{viewOf, stateOf, soundState, callOn, makeState}
 use Rattle.gate.specs.Runs.{stateAfter, eventsOn, StateRun, Runs}
 use Rattle.gate.proofs.Views.{view-state}
+use Rattle.gate.proofs.Judged.{view-sound}
 
 -- a sound view laid out is a sound state
 pub state-sound : (v : View) → sound v ≡ true → soundState (stateOf v) ≡ true
 unfolding soundState
 state-sound v e =
     let q = test-view v e .queues in
-    rw (tidy-packed (v .queues .c0) (q .0 .size), tidy-packed (v .queues .c1) (q .1 .size), tidy-packed (v .queues .c2) (q .2 .size), tidy-packed (v .queues .c3) (q .3 .size), view-state v)
+    rw (
+      tidy-packed (v .waiting .c0) (q .0 .size),
+      tidy-packed (v .waiting .c1) (q .1 .size),
+      tidy-packed (v .waiting .c2) (q .2 .size),
+      tidy-packed (v .waiting .c3) (q .3 .size),
+      view-state v,
+    )
     e
 
-view-of : (s : State) → soundState s ≡ true → sound (viewOf s) ≡ true
-unfolding soundState
-view-of s e = both (allTidy (s .queues)) (sound (viewOf s)) e .1
-
--- what a state's outcome has in common with its view's
-abbrev Reads : view.Outcome → Outcome → Type 0
+-- what a state's outcome has in common with its view's result
+abbrev Reads : Result inQueues → Outcome → Type 0
 Reads w o = (viewOf (o .state) ≡ w .view) × (o .answer ≡ w .answer) × (soundState (o .state) ≡ true)
 
 call-reads : (s : State) (c : Call) → soundState s ≡ true → Reads (call (viewOf s) c) (callOn s c)
@@ -48,9 +48,9 @@ call-reads s c e =
     rw e
     (on-cond (Reads w) (isRefused (w .answer))
     (λ r. (sym (refusals-change-nothing (viewOf s) c r), refl, e))
-    (λ r. (view-state (w .view), refl, state-sound (w .view) (calls-keep-sound (viewOf s) c (view-of s e)))))
+    (λ r. (view-state (w .view), refl, state-sound (w .view) (calls-keep-sound (viewOf s) c (view-sound s e)))))
   where
-    w : view.Outcome
+    w : Result inQueues
     w = call (viewOf s) c
 
 -- a run of states, read as a run of views
@@ -73,25 +73,27 @@ run-reads s (c ∷ cs) e =
           ∙ ap (λ (v : View). (c, call (viewOf s) c .answer) ∷ events v cs) (r .0);
     }
 
-begins : (profile stamp : ℕ) → make profile stamp .answer ≡ Ready → sound (make profile stamp .view) ≡ true
+begins : (m : Making) → make m .answer ≡ Ready → sound (make m .view) ≡ true
 unfolding viewAfter
-begins profile stamp ready = demand3 profile stamp [] ready .sound-throughout
+begins m ready = demand3 m [] ready .sound-throughout
 
 -- demand 3 of the states that make hands out
-pub make-runs : (profile stamp : ℕ) → Runs (makeState profile stamp) profile stamp
+pub make-runs : (m : Making) → Runs (makeState m) m
 unfolding makeState
-make-runs profile stamp ready calls =
+make-runs m ready calls =
     record {
       sound-state = n .is-sound;
       answers = n .answers;
       claims =
-          subst⁻¹ (λ (v : View). Claims profile v (journalOf (opened stamp) (eventsOn (stateOf first) calls))) (n .view ∙ ap (λ (v : View). viewAfter v calls) (view-state first))
-          (subst⁻¹ (λ (l : List (Call × Answer)). Claims profile (viewAfter first calls) (journalOf (opened stamp) l)) (n .answers ∙ ap (λ (v : View). events v calls) (view-state first))
-          (demand3 profile stamp calls ready));
+          subst⁻¹ (λ (v : View). Claims (m .profile) v (journalOf (opened (m .stamp)) (eventsOn (stateOf first) calls)))
+          (n .view ∙ ap (λ (v : View). viewAfter v calls) (view-state first))
+          (subst⁻¹
+          (λ (l : List (Call × Answer)). Claims (m .profile) (viewAfter first calls) (journalOf (opened (m .stamp)) l))
+          (n .answers ∙ ap (λ (v : View). events v calls) (view-state first)) (demand3 m calls ready));
     }
   where
     first : View
-    first = make profile stamp .view
+    first = make m .view
 
     n : RunReads (stateOf first) calls
-    n = run-reads (stateOf first) calls (state-sound first (begins profile stamp ready))
+    n = run-reads (stateOf first) calls (state-sound first (begins m ready))

@@ -12,7 +12,12 @@ use borrow.Author.Tests.{leb-true, leb-false, le-leb, lt-leb, ltb-true, ltb-fals
 use Rattle.rules.specs.Profiles.{room}
 use Rattle.rules.specs.Clock.{endOfTime, passesEnd}
 use Rattle.rules.proofs.Cases.{split, both}
-use Rattle.model.specs.State.{waitingIn, allOf, controlRules, lastRules, countRules, queueSound, sound}
+use Rattle.rules.specs.Tests.{allOf}
+use Rattle.control.specs.Control.{controlOf, soundControl}
+use Rattle.packing.specs.Packing.{padded}
+use Rattle.model.specs.Fours.{howMany}
+use Rattle.model.specs.Queues.{queueSound}
+use Rattle.model.specs.State.{lastRules, countRules, sound}
 use Rattle.queue.specs.declared.Queue.{Queue}
 use Rattle.queue.specs.Layout.{items, packed, Packed, tidy, soundQueue}
 use Rattle.gate.specs.declared.State.{State}
@@ -39,59 +44,68 @@ more-packed n qs f p k h =
     (λ e. f k (leb-false n k e))
 
 pub laid-out : (s : State) → length (s .queues) ≡ 4 → AllPacked 4 (s .queues) → LaidOut s
-laid-out s h f = λ i. record { queues = same i; clock = s .clock; control = s .control; last = s .last; counts = s .counts; live = s .live }
+laid-out s h f =
+    λ i.
+    record {
+      queues = same i;
+      clock = s .clock;
+      last = s .last;
+      counts = s .counts;
+      tuning = s .tuning;
+      profile = s .profile;
+      live = s .live;
+    }
   where
     same : s .queues ≡ queuesOf (listsOf (s .queues))
     same =
         four-long (s .queues) h
         ∙ (λ i. f 0 (omega arith) i ∷ f 1 (omega arith) i ∷ f 2 (omega arith) i ∷ f 3 (omega arith) i ∷ [])
 
--- a last test, taken out of a row
-last-out : (p q r s z : Bool) → p && (q && (r && (s && (z && true)))) ≡ (p && (q && (r && (s && true)))) && z
-last-out false q r s z = refl
-last-out true false r s z = refl
-last-out true true false s z = refl
-last-out true true true false z = refl
-last-out true true true true z = and-true z
-
 -- tests of two kinds, taken by kind or by queue; then one more
 regroup : (a b c d p q r s z : Bool)
-    → (a && (b && (c && (d && true)))) && (p && (q && (r && (s && (z && true))))) ≡ ((a && p) && ((b && q) && ((c && r) && ((d && s) && true)))) && z
+    → (a && (b && (c && (d && true)))) && ((p && (q && (r && (s && true)))) && (z && true))
+    ≡ ((a && p) && ((b && q) && ((c && r) && ((d && s) && true)))) && z
 regroup false b c d p q r s z = refl
 regroup true false c d p q r s z = sym (ap (λ (u : Bool). u && z) (and-false p))
 regroup true true false d p q r s z = simp and-false
 regroup true true true false p q r s z = simp and-false
-regroup true true true true p q r s z = last-out p q r s z
+regroup true true true true p q r s z = ap (λ (u : Bool). (p && (q && (r && (s && true)))) && u) (and-true z)
 
 -- tests that hold do not count
-skipped : (t u v w x rest : Bool) → u ≡ true → v ≡ true → w ≡ true → x ≡ true → t && (u && (v && (w && (x && rest)))) ≡ t && rest
+skipped : (t u v w x rest : Bool) → u ≡ true → v ≡ true → w ≡ true → x ≡ true
+    → t && (u && (v && (w && (x && rest)))) ≡ t && rest
 skipped t u v w x rest a b c d = rw (a, b, c, d)
 
+-- the groups of a state that are judged before its queues
+abbrev steered : State → Bool
+steered s = soundControl (controlOf (s .profile) (s .tuning))
+
+abbrev lasting : State → Bool
+lasting s = allOf (lastRules (s .profile) (s .clock .time) (s .last))
+
+abbrev pub counted : State → Bool
+counted s = allOf (countRules (howMany (listsOf (s .queues))) (s .counts))
+
 -- where the numbers are sound, the state is exactly if its queues are
-pub sound-by-queues : (s : State) → length (s .queues) ≡ 4 → eqb (s .live) 1 ≡ true → allOf (controlRules (s .control)) ≡ true
-    → leb (s .clock .time) endOfTime ≡ true → allOf (lastRules (s .control .profile) (s .clock .time) (s .last)) ≡ true
-    → soundState s ≡ (soundQueues (s .control .profile) (s .clock .time) 0 (s .queues) && allOf (countRules (waitingIn (listsOf (s .queues))) (s .counts)))
+pub sound-by-queues : (s : State) → length (s .queues) ≡ 4 → eqb (s .live) 1 ≡ true → steered s ≡ true
+    → leb (s .clock .time) endOfTime ≡ true → lasting s ≡ true
+    → soundState s ≡ (soundQueues (s .profile) (s .clock .time) 0 (s .queues) && counted s)
 unfolding soundState sound soundQueues soundQueue
 sound-by-queues s h a b c d =
-    skipped (allTidy qs) (eqb (s .live) 1) (allOf (controlRules (s .control))) (leb now endOfTime) (allOf (lastRules profile now (s .last)))
-    (judge 0 && (judge 1 && (judge 2 && (judge 3 && (counted && true))))) a b c d
-    ∙ regroup (tidy (queueAt qs 0)) (tidy (queueAt qs 1)) (tidy (queueAt qs 2)) (tidy (queueAt qs 3)) (judge 0) (judge 1) (judge 2) (judge 3) counted
-    ∙ ap (λ (l : List Queue). soundQueues profile now 0 l && counted) (sym (four-long qs h))
+    skipped (allTidy qs) (eqb (s .live) 1) (steered s) (leb now endOfTime) (lasting s)
+    ((judge 0 && (judge 1 && (judge 2 && (judge 3 && true)))) && (counted s && true)) a b c d
+    ∙ regroup (tidy (queueAt qs 0)) (tidy (queueAt qs 1)) (tidy (queueAt qs 2)) (tidy (queueAt qs 3)) (judge 0) (judge 1) (judge 2)
+    (judge 3) (counted s)
+    ∙ ap (λ (l : List Queue). soundQueues (s .profile) now 0 l && counted s) (sym (four-long qs h))
   where
     qs : List Queue
     qs = s .queues
 
-    profile : ℕ
-    profile = s .control .profile
-
     now : ℕ
     now = s .clock .time
 
-    counted : Bool
-    counted = allOf (countRules (waitingIn (listsOf qs)) (s .counts))
-
     judge : ℕ → Bool
-    judge k = queueSound profile now k (items (queueAt qs k))
+    judge k = queueSound (s .profile) now k (items (queueAt qs k))
 
 -- the queues that are left
 pub next-queue : (profile now k : ℕ) (qs : List Queue) (i : ℕ) → i < length qs
@@ -119,19 +133,20 @@ module _ (s : State) where
   unfolding soundState sound
   unsound-live h = simp (ne-eqb (s .live) 1 h, and-false)
 
-  pub unsound-control : allOf (controlRules (s .control)) ≡ false → soundState s ≡ false
+  pub unsound-control : steered s ≡ false → soundState s ≡ false
   unfolding soundState sound
-  unsound-control h = fails-second (allTidy (s .queues)) (eqb (s .live) 1) (allOf (controlRules (s .control))) _ h
+  unsound-control h = fails-second (allTidy (s .queues)) (eqb (s .live) 1) (steered s) _ h
 
   pub unsound-time : passesEnd (s .clock .time) ≡ true → soundState s ≡ false
   unfolding soundState sound passesEnd
-  unsound-time h = fails-third (allTidy (s .queues)) (eqb (s .live) 1) (allOf (controlRules (s .control))) (leb (s .clock .time) endOfTime) _ (lt-leb (s .clock .time) endOfTime (ltb-true endOfTime (s .clock .time) h))
+  unsound-time h =
+      fails-third (allTidy (s .queues)) (eqb (s .live) 1) (steered s) (leb (s .clock .time) endOfTime) _
+      (lt-leb (s .clock .time) endOfTime (ltb-true endOfTime (s .clock .time) h))
 
-  pub unsound-last : allOf (lastRules (s .control .profile) (s .clock .time) (s .last)) ≡ false → soundState s ≡ false
+  pub unsound-last : lasting s ≡ false → soundState s ≡ false
   unfolding soundState sound
   unsound-last h =
-      fails-fourth (allTidy (s .queues)) (eqb (s .live) 1) (allOf (controlRules (s .control))) (leb (s .clock .time) endOfTime)
-      (allOf (lastRules (s .control .profile) (s .clock .time) (s .last))) _ h
+      fails-fourth (allTidy (s .queues)) (eqb (s .live) 1) (steered s) (leb (s .clock .time) endOfTime) (lasting s) _ h
 
 pub in-time : (time : ℕ) → passesEnd time ≡ false → leb time endOfTime ≡ true
 unfolding passesEnd
@@ -153,7 +168,7 @@ pub waiting-none : (qs : List Queue) → waitingTo 0 qs ≡ 0
 unfolding waitingTo
 waiting-none qs = refl
 
-pub waiting-all : (qs : List Queue) → length qs ≡ 4 → waitingTo 4 qs ≡ waitingIn (listsOf qs)
+pub waiting-all : (qs : List Queue) → length qs ≡ 4 → waitingTo 4 qs ≡ howMany (listsOf qs)
 unfolding waitingTo
 waiting-all qs h = ap (waitingTo 4) (four-long qs h) ∙ omega arith
 
@@ -163,5 +178,5 @@ unfolding packed
 packed-count q p = ap (λ (x : Queue). x .len) p
 
 pub sound-len : (profile now k : ℕ) (q : Queue) → soundQueue profile now k q ≡ true → q .len ≤ room
-unfolding soundQueue tidy
+unfolding soundQueue padded
 sound-len profile now k q e = leb-true (q .len) room (both (leb (q .len) room) _ (both (tidy q) _ e .0) .0)

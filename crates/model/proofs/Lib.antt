@@ -1,6 +1,5 @@
 -- Demand 3, from its parts up: windows, columns and turns by themselves; refusals; sound views; what ties a view to the
 -- journal; runs. Last, the definitions run on document 01's examples.
-pub mod Cases
 pub mod Fours
 pub mod Window
 pub mod Columns

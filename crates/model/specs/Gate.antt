@@ -2,13 +2,14 @@
 -- numbers").
 use Prim.Native.Nat.{ℕ}
 use mathlib.Core.Path.{_≡_}
-use mathlib.Core.Bool.{true, not, cond}
+use mathlib.Core.Bool.{Bool, true, not, cond}
 use mathlib.Core.List.{List, [], _∷_, _++_}
 use lib.Dec.{ltb, leb, eqb}
 use Rattle.rules.specs.Profiles.{isProfile, lastPriority, ontimeAllowed, lifetimeAllowed, room, mostOffers}
 use Rattle.rules.specs.Clock.{stepOf, goesBack, passesEnd}
 use Rattle.rules.specs.Samples.{goodWords, badCount}
 use Rattle.rules.specs.Refusals.{Check, check, firstOf, FirstHolds}
+use Rattle.model.specs.declared.Clock.{Clock}
 use Rattle.model.specs.declared.Offer.{Offer}
 use Rattle.model.specs.declared.Answer.the-variants.{Ready, Refused}
 use Rattle.model.specs.Packets.{Holding}
@@ -40,12 +41,15 @@ ownChecks {h} v (offer stamp o) =
 ownChecks v (poll stamp) = []
 
 -- "Checks run 9, 2, 3, then ..": 9 NO-STATE, 2 CLOCK-BACK, 3 CLOCK-END
+abbrev pub clockChecks : (isSound : Bool) → Clock → (stamp : ℕ) → List Check → List Check
+clockChecks isSound clock stamp own =
+    check 9 (not isSound)
+    ∷ check 2 (goesBack (stepOf stamp (clock .stamp)))
+    ∷ check 3 (passesEnd (stepped clock stamp .time))
+    ∷ own
+
 unfoldable pub checks : {h : Holding} → Status h → Call → List Check
-checks v c =
-    check 9 (not (sound v))
-    ∷ check 2 (goesBack (stepOf (stampOf c) (v .clock .stamp)))
-    ∷ check 3 (passesEnd (stepped (v .clock) (stampOf c) .time))
-    ∷ ownChecks v c
+checks v c = clockChecks (sound v) (v .clock) (stampOf c) (ownChecks v c)
 
 -- "A refusal hands back the given state unchanged, clock included."
 abbrev pub unlessRefused : {h : Holding} → (number : ℕ) → Status h → Result h → Result h

@@ -13,12 +13,12 @@ returns : tie.Need-returns
 unfolding pollPlan
 returns c = c .keep-queues .ensures ∙ rw (ne-eqb _ _ (c .before .if1 .taken))
 
-add-counted : tie.Need-add-counted
-add-counted c = search needs
+add-counts : tie.Need-add-counts
+add-counts c = search needs
 
 returns-2 : tie.Need-returns-2
 unfolding pollPlan sentPlan
-returns-2 c = rw (eq-eqb _ _ (c .before .if1 .left))
+returns-2 c = rw (eq-eqb _ _ (c .before .before .if1 .left))
 
 pub plan-found-spec : {M : Type 1} → statement M
-plan-found-spec = tie.close (tie.spec keep-queues-requires returns add-counted returns-2)
+plan-found-spec = tie.close (tie.spec keep-queues-requires returns add-counts returns-2)
