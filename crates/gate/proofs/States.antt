@@ -94,7 +94,8 @@ unfolding soundState sound soundQueues soundQueue
 sound-by-queues s h a b c d =
     skipped (allTidy qs) (eqb (s .live) 1) (steered s) (leb now endOfTime) (lasting s)
     ((judge 0 && (judge 1 && (judge 2 && (judge 3 && true)))) && (counted s && true)) a b c d
-    ∙ regroup (tidy (queueAt qs 0)) (tidy (queueAt qs 1)) (tidy (queueAt qs 2)) (tidy (queueAt qs 3)) (judge 0) (judge 1) (judge 2)
+    ∙ regroup (tidy (queueAt qs 0)) (tidy (queueAt qs 1)) (tidy (queueAt qs 2)) (tidy (queueAt qs 3)) (judge 0) (judge 1)
+    (judge 2)
     (judge 3) (counted s)
     ∙ ap (λ (l : List Queue). soundQueues (s .profile) now 0 l && counted s) (sym (four-long qs h))
   where
@@ -109,7 +110,8 @@ sound-by-queues s h a b c d =
 
 -- the queues that are left
 pub next-queue : (profile now k : ℕ) (qs : List Queue) (i : ℕ) → i < length qs
-    → soundQueues profile now k (drop i qs) ≡ (soundQueue profile now k (queueAt qs i) && soundQueues profile now (k + 1) (drop (i + 1) qs))
+    → soundQueues profile now k (drop i qs)
+    ≡ (soundQueue profile now k (queueAt qs i) && soundQueues profile now (k + 1) (drop (i + 1) qs))
 unfolding soundQueues
 next-queue profile now k qs i h = rw (add-one i, drop-cons qs i noQueue)
 
@@ -158,7 +160,8 @@ waitingTo zero qs = 0
 waitingTo (suc n) [] = 0
 waitingTo (suc n) (q ∷ qs) = length (items q) + waitingTo n qs
 
-pub waiting-more : (n : ℕ) (qs : List Queue) → n < length qs → waitingTo (n + 1) qs ≡ waitingTo n qs + length (items (queueAt qs n))
+pub waiting-more : (n : ℕ) (qs : List Queue) → n < length qs
+    → waitingTo (n + 1) qs ≡ waitingTo n qs + length (items (queueAt qs n))
 unfolding waitingTo
 waiting-more n [] h = absurd (omega arith)
 waiting-more zero (q ∷ qs) h = omega arith

@@ -129,7 +129,8 @@ moved-sound v stamp k h =
       time = k;
       last = record { flag = h .last .flag; past = omega (arith, h .last .past); fields = h .last .fields };
       queues =
-          fours-each (Queued (v .control .profile) (v .clock .time)) (Queued (v .control .profile) (stepped (v .clock) stamp .time))
+          fours-each (Queued (v .control .profile) (v .clock .time))
+          (Queued (v .control .profile) (stepped (v .clock) stamp .time))
           (λ (ps : List Packet). ps)
           (λ n ps. queued-later (v .control .profile) (v .clock .time) (stepped (v .clock) stamp .time) n ps (omega arith))
           (v .waiting) (h .queues);

@@ -1,4 +1,5 @@
--- A list in an array of some capacity, and "everything unused is zero" (document 01, "State and calls"), over any element.
+-- A list in an array of some capacity, and "everything unused is zero" (document 01, "State and calls"), over
+-- any element.
 use Prim.Native.Nat.{ℕ, _-_}
 use mathlib.Core.Bool.{Bool, true, _&&_}
 use mathlib.Core.List.{List, [], _∷_, _++_}
