@@ -1,4 +1,5 @@
 -- A state's numbers, with one group changed (document 01, "State and calls").
+use Prim.Native.Nat.{ℕ}
 use Rattle.control.specs.declared.Tuning.{Tuning}
 use Rattle.model.specs.declared.Clock.{Clock}
 use Rattle.model.specs.declared.Last.{Last}
@@ -16,6 +17,10 @@ setLast n last =
 abbrev pub setCounts : Numbers → Counts → Numbers
 setCounts n counts =
     record { clock = n .clock; last = n .last; counts = counts; tuning = n .tuning; profile = n .profile }
+
+abbrev pub setProfile : Numbers → (profile : ℕ) → Numbers
+setProfile n profile =
+    record { clock = n .clock; last = n .last; counts = n .counts; tuning = n .tuning; profile = profile }
 
 abbrev pub setTuning : Numbers → Tuning → Numbers
 setTuning n tuning =

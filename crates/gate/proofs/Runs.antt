@@ -12,7 +12,7 @@ use Rattle.model.specs.Effects.{Result}
 use Rattle.model.specs.Gate.{make, call}
 use Rattle.model.specs.Journal.{opened, journalOf}
 use Rattle.model.specs.Claims.{Claims, viewAfter, events}
-use Rattle.model.proofs.Sound.{SoundView, test-view}
+use Rattle.model.proofs.Sound.{test-view}
 use Rattle.model.proofs.Refusals.{refusals-change-nothing}
 use Rattle.model.proofs.KeepsSound.{calls-keep-sound}
 use Rattle.model.proofs.Demand3.{demand3}
@@ -20,7 +20,7 @@ use Rattle.queue.proofs.Sound.{tidy-packed}
 use Rattle.gate.specs.declared.State.{State}
 use Rattle.gate.specs.declared.Outcome.{Outcome}
 use Rattle.gate.specs.Layout.{viewOf, stateOf, soundState, callOn, makeState}
-use Rattle.gate.specs.Runs.{stateAfter, eventsOn, StateRun, Runs}
+use Rattle.gate.specs.Runs.{stateAfter, eventsOn, Runs}
 use Rattle.gate.proofs.Views.{view-state}
 use Rattle.gate.proofs.Judged.{view-sound}
 

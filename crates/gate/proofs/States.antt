@@ -21,7 +21,7 @@ use Rattle.model.specs.State.{lastRules, countRules, sound}
 use Rattle.queue.specs.declared.Queue.{Queue}
 use Rattle.queue.specs.Layout.{items, packed, Packed, tidy, soundQueue}
 use Rattle.gate.specs.declared.State.{State}
-use Rattle.gate.specs.Layout.{noQueue, queueAt, listsOf, queuesOf, LaidOut, allTidy, soundState}
+use Rattle.gate.specs.Layout.{noQueue, queueAt, listsOf, queuesOf, stateFrom, numbersOf, LaidOut, allTidy, soundState}
 use Rattle.gate.specs.Requests.{soundQueues}
 use lib.Dec.{leb, eqb}
 
@@ -44,17 +44,7 @@ more-packed n qs f p k h =
     (λ e. f k (leb-false n k e))
 
 pub laid-out : (s : State) → length (s .queues) ≡ 4 → AllPacked 4 (s .queues) → LaidOut s
-laid-out s h f =
-    λ i.
-    record {
-      queues = same i;
-      clock = s .clock;
-      last = s .last;
-      counts = s .counts;
-      tuning = s .tuning;
-      profile = s .profile;
-      live = s .live;
-    }
+laid-out s h f = λ i. stateFrom (same i) (s .live) (numbersOf s)
   where
     same : s .queues ≡ queuesOf (listsOf (s .queues))
     same =

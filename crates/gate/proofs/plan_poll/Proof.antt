@@ -2,7 +2,6 @@
 use mathlib.Core.Path.{_∙_}
 use borrow.Author.Needs.{needs}
 use Rattle.decide.specs.Plans.{pollPlan}
-use Rattle.gate.specs.Plans.{Pollable}
 use Rattle.gate.proofs.Planning.{last-ontime, last-before}
 use Rattle.gate.proofs.plan_poll.Statement.{statement}
 use Rattle.gate.proofs.plan_poll.Tie as tie
