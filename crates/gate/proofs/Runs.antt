@@ -1,26 +1,30 @@
 -- A sound state's call is its view's call laid out, so a run of states reads as a run of views, and demand 3 carries over.
-use mathlib.Core.Path.{_≡_, refl, ap, ap₂, sym, _∙_, subst⁻¹}
-use mathlib.Core.Bool.{true}
+use Prim.Native.Nat.{ℕ}
+use mathlib.Core.Path.{_≡_, refl, ap, ap₂, sym, _∙_, subst, subst⁻¹}
+use mathlib.Core.Logic.{inl, inr}
+use mathlib.Core.Bool.{Bool, true}
 use mathlib.Core.List.{List, [], _∷_}
-use Rattle.rules.proofs.Cases.{on-cond}
+use Rattle.rules.specs.Refusals.{Check, check, FirstHolds}
+use Rattle.rules.proofs.Cases.{split, on-cond, clash}
 use Rattle.model.specs.declared.Answer.{Answer}
-use Rattle.model.specs.declared.Answer.the-variants.{Ready}
+use Rattle.model.specs.declared.Answer.the-variants.{Ready, Refused}
 use Rattle.model.specs.Queues.{inQueues}
-use Rattle.model.specs.Calls.{Call, Making, isRefused}
+use Rattle.model.specs.Calls.{Call, poll, stampOf, Making, isRefused}
 use Rattle.model.specs.State.{View, sound}
 use Rattle.model.specs.Effects.{Result}
-use Rattle.model.specs.Gate.{make, call}
-use Rattle.model.specs.Journal.{opened, journalOf}
+use Rattle.model.specs.Gate.{ownChecks, clockChecks, checks, make, call}
+use Rattle.model.specs.Journal.{Journal, opened, journalOf}
 use Rattle.model.specs.Claims.{Claims, viewAfter, events}
 use Rattle.model.proofs.Sound.{test-view}
-use Rattle.model.proofs.Refusals.{refusals-change-nothing}
+use Rattle.model.proofs.Refusals.{refusals-change-nothing, refusals-are-exact}
 use Rattle.model.proofs.KeepsSound.{calls-keep-sound}
 use Rattle.model.proofs.Demand3.{demand3}
 use Rattle.queue.proofs.Sound.{tidy-packed}
 use Rattle.gate.specs.declared.State.{State}
 use Rattle.gate.specs.declared.Outcome.{Outcome}
-use Rattle.gate.specs.Layout.{viewOf, stateOf, soundState, callOn, makeState}
-use Rattle.gate.specs.Runs.{stateAfter, eventsOn, Runs}
+use Rattle.gate.specs.Layout.{viewOf, stateOf, soundState, outcomeOf, callOn, makeState}
+use Rattle.gate.specs.Runs.{RefusedUnchanged, UnsoundGetsNine, checksOn, RefusedExactly}
+use Rattle.gate.specs.Runs.{stateAfter, eventsOn, PollsRight, journalOn, StateRun, Runs}
 use Rattle.gate.proofs.Views.{view-state}
 use Rattle.gate.proofs.Judged.{view-sound}
 
@@ -77,6 +81,21 @@ begins : (m : Making) → make m .answer ≡ Ready → sound (make m .view) ≡ 
 unfolding viewAfter
 begins m ready = demand3 m [] ready .sound-throughout
 
+-- the answer of a call on a sound state is that of its view
+answer-read : (s : State) (c : Call) → soundState s ≡ true → callOn s c .answer ≡ call (viewOf s) c .answer
+answer-read s c e = call-reads s c e .1
+
+polls-right : (profile : ℕ) (s : State) (j : Journal) → soundState s ≡ true → Claims profile (viewOf s) j
+    → PollsRight profile s j
+polls-right profile s j e c =
+    record {
+      floor = λ stamp a some q.
+          let r = answer-read s (poll stamp) e in
+          let f = c .floor stamp (ap isRefused (sym r) ∙ a) some q in
+          (f .0, r ∙ f .1);
+      sent = λ stamp p a. c .sent stamp p (sym (answer-read s (poll stamp) e) ∙ a);
+    }
+
 -- demand 3 of the states that make hands out
 pub make-runs : (m : Making) → Runs (makeState m) m
 unfolding makeState
@@ -84,12 +103,8 @@ make-runs m ready calls =
     record {
       sound-state = n .is-sound;
       answers = n .answers;
-      claims =
-          subst⁻¹ (λ (v : View). Claims (m .profile) v (journalOf (opened (m .stamp)) (eventsOn (stateOf first) calls)))
-          (n .view ∙ ap (λ (v : View). viewAfter v calls) (view-state first))
-          (subst⁻¹
-          (λ (l : List (Call × Answer)). Claims (m .profile) (viewAfter first calls) (journalOf (opened (m .stamp)) l))
-          (n .answers ∙ ap (λ (v : View). events v calls) (view-state first)) (demand3 m calls ready));
+      claims = claimed;
+      polls = polls-right (m .profile) (stateAfter (stateOf first) calls) (journalOn m (stateOf first) calls) (n .is-sound) claimed;
     }
   where
     first : View
@@ -97,3 +112,52 @@ make-runs m ready calls =
 
     n : RunReads (stateOf first) calls
     n = run-reads (stateOf first) calls (state-sound first (begins m ready))
+
+    claimed : Claims (m .profile) (viewOf (stateAfter (stateOf first) calls)) (journalOn m (stateOf first) calls)
+    claimed =
+        subst⁻¹ (λ (v : View). Claims (m .profile) v (journalOn m (stateOf first) calls))
+        (n .view ∙ ap (λ (v : View). viewAfter v calls) (view-state first))
+        (subst⁻¹ (λ (l : List (Call × Answer)). Claims (m .profile) (viewAfter first calls) (journalOf (opened (m .stamp)) l))
+        (n .answers ∙ ap (λ (v : View). events v calls) (view-state first)) (demand3 m calls ready))
+
+-- demand 1 of states: a refusal hands the given state back
+pub refused-unchanged : RefusedUnchanged
+unfolding callOn
+refused-unchanged s c =
+    on-cond (λ (o : Outcome). isRefused (o .answer) ≡ true → o .state ≡ s) (soundState s)
+    (λ e. on-cond (λ (o : Outcome). isRefused (o .answer) ≡ true → o .state ≡ s) (isRefused (call (viewOf s) c .answer))
+    (λ r h. refl) (λ r h. clash (cc)))
+    (λ e h. refl)
+
+pub unsound-gets-nine : UnsoundGetsNine
+unfolding callOn
+unsound-gets-nine s c e = rw e
+
+-- demand 2 of states: on a sound one the table is the view's, and on any other its first row holds
+answer-laid : (s : State) (o : Result inQueues) → outcomeOf s o .answer ≡ o .answer
+answer-laid s o = on-cond (λ (x : Outcome). x .answer ≡ o .answer) (isRefused (o .answer)) (λ r. refl) (λ r. refl)
+
+checks-alike : (s : State) (c : Call) → soundState s ≡ true → checksOn s c ≡ checks (viewOf s) c
+unfolding checks
+checks-alike s c e =
+    ap (λ (u : Bool). clockChecks u (s .clock) (stampOf c) (ownChecks (viewOf s) c)) (e ∙ sym (view-sound s e))
+
+nine-first : (n : ℕ) (rest : List Check) (number : ℕ) → FirstHolds n (check number true ∷ rest) → number ≡ n
+nine-first n rest number (inl h) = h .1
+nine-first n rest number (inr h) = clash (cc (h .0))
+
+pub refused-exactly : RefusedExactly
+unfolding callOn
+refused-exactly s c n =
+    split (soundState s)
+    (λ e.
+    let x = refusals-are-exact (viewOf s) c n in
+    let t = checks-alike s c e in
+    let a : callOn s c .answer ≡ call (viewOf s) c .answer = rw e (answer-laid s (call (viewOf s) c)) in (
+      λ r. subst⁻¹ (FirstHolds n) t (x .0 (sym a ∙ r)),
+      λ h. a ∙ x .1 (subst (FirstHolds n) t h),
+    ))
+    (λ e. rw e (
+      λ r. inl (refl, cc),
+      λ h. ap Refused (nine-first n _ 9 h),
+    ))
