@@ -1,10 +1,10 @@
 -- A sound state's call is its view's call laid out, so a run of states reads as a run of views, and demand 3 carries over.
 use Prim.Native.Nat.{ℕ}
 use mathlib.Core.Path.{_≡_, refl, ap, ap₂, sym, _∙_, subst, subst⁻¹}
-use mathlib.Core.Logic.{inl, inr}
+use mathlib.Core.Logic.{inl, ⊎-elim}
 use mathlib.Core.Bool.{Bool, true}
 use mathlib.Core.List.{List, [], _∷_}
-use Rattle.rules.specs.Refusals.{Check, check, FirstHolds}
+use Rattle.rules.specs.Refusals.{FirstHolds}
 use Rattle.rules.proofs.Cases.{split, on-cond, clash}
 use Rattle.model.specs.declared.Answer.{Answer}
 use Rattle.model.specs.declared.Answer.the-variants.{Ready, Refused}
@@ -142,10 +142,6 @@ unfolding checks
 checks-alike s c e =
     ap (λ (u : Bool). clockChecks u (s .clock) (stampOf c) (ownChecks (viewOf s) c)) (e ∙ sym (view-sound s e))
 
-nine-first : (n : ℕ) (rest : List Check) (number : ℕ) → FirstHolds n (check number true ∷ rest) → number ≡ n
-nine-first n rest number (inl h) = h .1
-nine-first n rest number (inr h) = clash (cc (h .0))
-
 pub refused-exactly : RefusedExactly
 unfolding callOn
 refused-exactly s c n =
@@ -159,5 +155,5 @@ refused-exactly s c n =
     ))
     (λ e. rw e (
       λ r. inl (refl, cc),
-      λ h. ap Refused (nine-first n _ 9 h),
+      ⊎-elim (λ h. ap Refused (h .1)) (λ h. clash (cc (h .0))),
     ))
