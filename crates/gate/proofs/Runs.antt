@@ -104,7 +104,8 @@ make-runs m ready calls =
       sound-state = n .is-sound;
       answers = n .answers;
       claims = claimed;
-      polls = polls-right (m .profile) (stateAfter (stateOf first) calls) (journalOn m (stateOf first) calls) (n .is-sound) claimed;
+      polls = polls-right (m .profile) (stateAfter (stateOf first) calls) (journalOn m (stateOf first) calls)
+          (n .is-sound) claimed;
     }
   where
     first : View

@@ -1,0 +1,118 @@
+-- The block's lines, and behind them the last line where the log ends.
+use Prim.Native.Nat.{ℕ, _+_, _≤_}
+use mathlib.Core.Path.{_≡_, refl, ap, _∙_, subst⁻¹}
+use mathlib.Core.Logic.{⊎-elim}
+use mathlib.Core.List.{List}
+use native.Mathlib.Omega.{arith}
+use borrow.Author.Tests.{not-true, not-false}
+use denote.Ref.{now}
+use lib.ListN.{length}
+use Rattle.io.proofs.Counting.{counts}
+use Rattle.calllog.specs.Buffers.{Put}
+use Rattle.calllog.specs.Text.{recordsDone, blockRoom, goesOn, turnText}
+use Rattle.calllog.proofs.Buffers.{next}
+use Rattle.calllog.proofs.Lengths.{last-le}
+use Rattle.calllog.proofs.Turns.{lines, no-last, unread, ended, room-for-last, whole}
+use borrow.Author.Needs.{needs}
+use Rattle.calllog.proofs.turn.Statement.{statement}
+use Rattle.calllog.proofs.turn.Tie as tie
+
+-- what the block did: the records of a block, and their lines
+record Did (u : tie.After-block) : Type 0 where
+  room : length (u .block .last .1 .1 .0) ≡ blockRoom
+  used : u .block .result .used ≡ recordsDone (length (now (u .before .before .before .before .args .input))) blockRoom
+  put :
+      Put (now (u .before .before .before .before .args .out)) 0
+      (lines (u .before .before .before .before .args .state) (now (u .before .before .before .before .args .input)))
+      (u .block .result .end)
+      (u .block .last .1 .1 .0)
+
+did : (u : tie.After-block) → Did u
+did u =
+    let a = u .before .before .before .before .args in
+    let b = u .block in
+    let n : length (now (a .out)) ≡ blockRoom = omega (arith, u .before .before .lines .given) in
+    let e : b .result .used ≡ recordsDone (length (now (a .input))) blockRoom =
+    b .ensures .0 ∙ ap (recordsDone (length (now (a .input)))) n in
+    record { room = omega (arith, n, b .kept); used = e; put = rw e at (b .ensures .1 .1 .0) }
+
+ends :
+    (u : tie.After-block)
+    → u .block .result .end ≡ length (lines (u .before .before .before .before .args .state) (now (u .before .before .before .before .args .input)))
+ends u = omega (arith, did u .put .place)
+
+block-requires : tie.Need-block-requires
+block-requires c κs = search needs
+
+last-line-requires : tie.Need-last-line-requires
+last-line-requires c κs =
+    let u = c .before .before .before .before .before in
+    let a = u .before .before .before .before .args in
+    omega (arith, did u .room, ends u, room-for-last (a .state) (now (a .input)))
+
+returns : tie.Need-returns
+returns c =
+    let u = c .before .before .before .before .before .before in
+    let a = u .before .before .before .before .args in
+    let d = did u in
+    let w = c .last-line in
+    let p : Put (now (a .out)) 0 (turnText (a .state) (now (a .input)) (a .failed)) (w .result) (w .last .0) =
+    subst⁻¹ (λ (t : List ℕ). Put (now (a .out)) 0 t (w .result) (w .last .0))
+    (ap (turnText (a .state) (now (a .input))) (not-true (a .failed) (c .before .if2 .taken)) ∙ ended (a .state) (now (a .input)) (not-true (goesOn (now (a .input))) (c .before .before .if1 .taken)))
+    (next (omega arith) (d .put) (w .ensures)) in (
+      d .used,
+      (
+        u .block .ensures .1 .0,
+        (
+          p,
+          (
+            refl,
+            (
+              λ h. rw (d .used) (whole (length (now (a .input))) h),
+              counts (w .result) (w .last .0) (omega (
+                arith,
+                w .kept,
+                w .ensures .place,
+                last-le (length (now (a .input))),
+                did u .room,
+                ends u,
+                room-for-last (a .state) (now (a .input)),
+              )),
+            ),
+          ),
+        ),
+      ),
+    )
+
+returns-2 : tie.Need-returns-2
+returns-2 c =
+    let u = c .before .before .before .before in
+    let a = u .before .before .before .before .args in
+    let d = did u in
+    let w = u .block in
+    let text : (turnText (a .state) (now (a .input)) (a .failed) ≡ lines (a .state) (now (a .input))) × (c .if1 .out ≡ w .last .1 .1 .0) =
+    ⊎-elim
+    (λ way. (
+      ap (turnText (a .state) (now (a .input))) (not-false (a .failed) (way .1 .left)) ∙ unread (a .state) (now (a .input)) (not-true (goesOn (now (a .input))) (way .0 .taken)),
+      way .2,
+    ))
+    (λ way. (no-last (a .state) (now (a .input)) (a .failed) (not-false (goesOn (now (a .input))) (way .0 .left)), way .1))
+    (c .if1 .came) in (
+      d .used,
+      (
+        w .ensures .1 .0,
+        (
+          rw (text .0, text .1) (d .put),
+          (
+            refl,
+            (
+              λ h. rw (d .used) (whole (length (now (a .input))) h),
+              rw (text .1) (w .ensures .1 .1 .1),
+            ),
+          ),
+        ),
+      ),
+    )
+
+pub turn-spec : {M : Type 1} → statement M
+turn-spec = tie.close (tie.spec block-requires last-line-requires returns returns-2)

@@ -1,0 +1,54 @@
+-- A turn's contract gives what the program says of it, and a piece behind a log that was cut at a record makes a longer log.
+use Prim.Native.Nat.{ℕ, _+_, _*_, _/_, _≤_}
+use mathlib.Core.Path.{_≡_, sym, ap, ap₂, _∙_}
+use mathlib.Core.Bool.{Bool, true}
+use mathlib.Core.List.{List, _++_}
+use native.Mathlib.Omega.{arith}
+use borrow.Author.Tests.{leb-true}
+use lib.ListN.{length, length-append}
+use Rattle.gate.specs.declared.State.{State}
+use Rattle.calllog.specs.declared.Progress.{Progress}
+use Rattle.calllog.specs.Records.{recordBytes}
+use Rattle.calllog.specs.Steps.{atStart}
+use Rattle.calllog.specs.Buffers.{Put}
+use Rattle.calllog.specs.Text.{stateFrom, blockBytes, goesOn, turnText, Whole}
+use Rattle.calllog.proofs.Pieces.{state-past}
+use Rattle.replay.specs.Program.{Turned, Reached}
+
+-- a turn handed on, whether or not the program then goes on
+pub handed-on :
+    {buffer after : List ℕ} (s : State) (piece : List ℕ) (failed : Bool) (r : Progress) (more : Bool)
+    → length piece ≤ blockBytes
+    → r .state ≡ stateFrom s piece (r .used)
+    → Put buffer 0 (turnText s piece failed) (r .end) after
+    → r .more ≡ goesOn piece
+    → Whole (length piece) (r .used) (r .more)
+    → (more ≡ true → r .more ≡ true)
+    → Turned s buffer (record { state = r .state; used = r .used; end = r .end; more = more }) after
+handed-on s piece failed r more fits state text goes-on whole on =
+    record {
+      piece = piece;
+      failed = failed;
+      fits = fits;
+      state = state ∙ ap (stateFrom s piece) (whole .done);
+      text = text;
+      full = λ e. omega (arith, fits, leb-true blockBytes (length piece) (sym goes-on ∙ on e));
+    }
+
+-- one more turn
+pub reached-on :
+    {at r : Progress} {buffer after : List ℕ} → Reached at → at .more ≡ true → Turned (at .state) buffer r after → Reached r
+reached-on {at} {r} h more t =
+    let n = length (h .log) / recordBytes in
+    let m = length (t .piece) / recordBytes in
+    let cut = h .cut more in
+    let k : length (h .log ++ t .piece) / recordBytes ≡ n + m = omega (arith, cut, length-append (h .log) (t .piece)) in
+    record {
+      log = h .log ++ t .piece;
+      state =
+          t .state
+          ∙ ap (λ (x : State). stateFrom x (t .piece) m) (h .state)
+          ∙ sym (state-past atStart (h .log) (t .piece) n m cut)
+          ∙ ap (stateFrom atStart (h .log ++ t .piece)) (sym k);
+      cut = λ e. omega (arith, cut, t .full e, length-append (h .log) (t .piece));
+    }

@@ -1,0 +1,2 @@
+-- What the program's turns come to.
+pub mod Program

@@ -1,0 +1,29 @@
+-- The program's turns (document 01, "The call log and its program"). Nothing is known of what a read brings, so a
+-- turn is said to be that of some piece of a log, and the state at the end that of some log.
+use Prim.Native.Nat.{ℕ, _*_, _/_, _≤_}
+use mathlib.Core.Path.{_≡_}
+use mathlib.Core.Bool.{Bool, true}
+use mathlib.Core.List.{List}
+use lib.ListN.{length}
+use Rattle.gate.specs.declared.State.{State}
+use Rattle.calllog.specs.declared.Progress.{Progress}
+use Rattle.calllog.specs.Records.{recordBytes}
+use Rattle.calllog.specs.Steps.{atStart}
+use Rattle.calllog.specs.Buffers.{Put}
+use Rattle.calllog.specs.Text.{stateFrom, blockBytes, turnText}
+
+-- a piece was read and done on a state: all its whole records, and its text lies in the buffer; the program goes
+-- on only behind a full block
+pub record Turned (s : State) (buffer : List ℕ) (r : Progress) (after : List ℕ) : Type 0 where
+  pub piece : List ℕ
+  pub failed : Bool
+  pub fits : length piece ≤ blockBytes
+  pub state : r .state ≡ stateFrom s piece (length piece / recordBytes)
+  pub text : Put buffer 0 (turnText s piece failed) (r .end) after
+  pub full : r .more ≡ true → length piece ≡ blockBytes
+
+-- the state is that of a log from its start, and a log that goes on is cut where a record ends
+pub record Reached (r : Progress) : Type 0 where
+  pub log : List ℕ
+  pub state : r .state ≡ stateFrom atStart log (length log / recordBytes)
+  pub cut : r .more ≡ true → length log ≡ recordBytes * (length log / recordBytes)
