@@ -78,8 +78,8 @@ fn by_c_calls(start: State, row: &[[u32; 6]]) -> Tally {
     let mut sent = 0;
     for &[kind, a, b, c, d, stamp] in row {
         let turn = match kind {
-            0 => sys::presscurlew_sample_count(now, a, stamp),
-            1 => sys::presscurlew_offer(now, a, b, c, d, stamp),
+            1 => sys::presscurlew_sample_count(now, a, stamp),
+            2 => sys::presscurlew_offer(now, a, b, c, d, stamp),
             _ => sys::presscurlew_poll(now, stamp),
         };
         now = turn.state;
@@ -101,8 +101,8 @@ fn valued(mut state: State, row: &[[u32; 6]]) -> Tally {
     let mut sent = 0;
     for &[kind, a, b, c, d, stamp] in row {
         let (next, answer) = match kind {
-            0 => by_value::sample(state, a, stamp),
-            1 => by_value::offer(state, [a, b, c, d], stamp),
+            1 => by_value::sample(state, a, stamp),
+            2 => by_value::offer(state, [a, b, c, d], stamp),
             _ => by_value::poll(state, stamp),
         };
         state = next;
@@ -115,8 +115,8 @@ fn in_place(mut state: State, row: &[[u32; 6]]) -> Tally {
     let mut sent = 0;
     for &[kind, a, b, c, d, stamp] in row {
         let answer = match kind {
-            0 => state.sample(a, stamp),
-            1 => state.offer([a, b, c, d], stamp),
+            1 => state.sample(a, stamp),
+            2 => state.offer([a, b, c, d], stamp),
             _ => state.poll(stamp),
         };
         count(&mut sent, answer);
@@ -124,14 +124,14 @@ fn in_place(mut state: State, row: &[[u32; 6]]) -> Tally {
     Tally { state, sent }
 }
 
-/// One call of a mix, by its number in the row.
+/// One call of a mix, by its number in the row: the kinds are the call log's.
 type Mix = fn(u32) -> [u32; 5];
 
 fn offered(i: u32, lifetime: u32) -> [u32; 5] {
-    [1, i, i / 3 % 4, 400, lifetime]
+    [2, i, i / 3 % 4, 400, lifetime]
 }
 
-const POLL: [u32; 5] = [2, 0, 0, 0, 0];
+const POLL: [u32; 5] = [3, 0, 0, 0, 0];
 
 /// An offer, then two polls: few wait.
 fn few(i: u32) -> [u32; 5] {
@@ -164,7 +164,7 @@ fn sending(i: u32) -> [u32; 5] {
 fn sampled(i: u32) -> [u32; 5] {
     match i % 3 {
         0 => offered(i, 1_000_000),
-        1 => [0, i % 1001, 0, 0, 0],
+        1 => [1, i % 1001, 0, 0, 0],
         _ => POLL,
     }
 }
