@@ -1,4 +1,4 @@
--- A state's numbers, with one group changed (document 01, "State and calls").
+-- A state's numbers, from their groups and with one group changed (document 01, "State and calls").
 use Prim.Native.Nat.{ℕ}
 use Rattle.control.specs.declared.Tuning.{Tuning}
 use Rattle.model.specs.declared.Clock.{Clock}
@@ -6,22 +6,22 @@ use Rattle.model.specs.declared.Last.{Last}
 use Rattle.model.specs.declared.Counts.{Counts}
 use Rattle.decide.specs.declared.Numbers.{Numbers}
 
+-- the one builder of a state's numbers
+abbrev pub numbersFrom : Clock → Last → Counts → Tuning → (profile : ℕ) → Numbers
+numbersFrom clock last counts tuning profile =
+    record { clock = clock; last = last; counts = counts; tuning = tuning; profile = profile }
+
 abbrev pub setClock : Numbers → Clock → Numbers
-setClock n clock =
-    record { clock = clock; last = n .last; counts = n .counts; tuning = n .tuning; profile = n .profile }
+setClock n clock = numbersFrom clock (n .last) (n .counts) (n .tuning) (n .profile)
 
 abbrev pub setLast : Numbers → Last → Numbers
-setLast n last =
-    record { clock = n .clock; last = last; counts = n .counts; tuning = n .tuning; profile = n .profile }
+setLast n last = numbersFrom (n .clock) last (n .counts) (n .tuning) (n .profile)
 
 abbrev pub setCounts : Numbers → Counts → Numbers
-setCounts n counts =
-    record { clock = n .clock; last = n .last; counts = counts; tuning = n .tuning; profile = n .profile }
-
-abbrev pub setProfile : Numbers → (profile : ℕ) → Numbers
-setProfile n profile =
-    record { clock = n .clock; last = n .last; counts = n .counts; tuning = n .tuning; profile = profile }
+setCounts n counts = numbersFrom (n .clock) (n .last) counts (n .tuning) (n .profile)
 
 abbrev pub setTuning : Numbers → Tuning → Numbers
-setTuning n tuning =
-    record { clock = n .clock; last = n .last; counts = n .counts; tuning = tuning; profile = n .profile }
+setTuning n tuning = numbersFrom (n .clock) (n .last) (n .counts) tuning (n .profile)
+
+abbrev pub setProfile : Numbers → (profile : ℕ) → Numbers
+setProfile n profile = numbersFrom (n .clock) (n .last) (n .counts) (n .tuning) profile

@@ -21,7 +21,7 @@ use Rattle.model.specs.State.{lastRules, countRules, sound}
 use Rattle.queue.specs.declared.Queue.{Queue}
 use Rattle.queue.specs.Layout.{items, packed, Packed, tidy, soundQueue}
 use Rattle.gate.specs.declared.State.{State}
-use Rattle.gate.specs.Layout.{noQueue, queueAt, listsOf, queuesOf, stateFrom, numbersOf, LaidOut, allTidy, soundState}
+use Rattle.gate.specs.Layout.{noQueue, queueAt, listsOf, queuesOf, stateFrom, numbersOf, LaidOut, soundState}
 use Rattle.gate.specs.Requests.{soundQueues}
 use lib.Dec.{leb, eqb}
 
@@ -61,11 +61,6 @@ regroup true true false d p q r s z = simp and-false
 regroup true true true false p q r s z = simp and-false
 regroup true true true true p q r s z = ap (λ (u : Bool). (p && (q && (r && (s && true)))) && u) (and-true z)
 
--- tests that hold do not count
-skipped : (t u v w x rest : Bool) → u ≡ true → v ≡ true → w ≡ true → x ≡ true
-    → t && (u && (v && (w && (x && rest)))) ≡ t && rest
-skipped t u v w x rest a b c d = rw (a, b, c, d)
-
 -- the groups of a state that are judged before its queues
 abbrev steered : State → Bool
 steered s = soundControl (controlOf (s .profile) (s .tuning))
@@ -82,12 +77,10 @@ pub sound-by-queues : (s : State) → length (s .queues) ≡ 4 → eqb (s .live)
     → soundState s ≡ (soundQueues (s .profile) (s .clock .time) 0 (s .queues) && counted s)
 unfolding soundState sound soundQueues soundQueue
 sound-by-queues s h a b c d =
-    skipped (allTidy qs) (eqb (s .live) 1) (steered s) (leb now endOfTime) (lasting s)
-    ((judge 0 && (judge 1 && (judge 2 && (judge 3 && true)))) && (counted s && true)) a b c d
-    ∙ regroup (tidy (queueAt qs 0)) (tidy (queueAt qs 1)) (tidy (queueAt qs 2)) (tidy (queueAt qs 3)) (judge 0) (judge 1)
-    (judge 2)
-    (judge 3) (counted s)
-    ∙ ap (λ (l : List Queue). soundQueues (s .profile) now 0 l && counted s) (sym (four-long qs h))
+    rw (a, b, c, d)
+    (regroup (tidy (queueAt qs 0)) (tidy (queueAt qs 1)) (tidy (queueAt qs 2)) (tidy (queueAt qs 3))
+    (judge 0) (judge 1) (judge 2) (judge 3) (counted s)
+    ∙ ap (λ (l : List Queue). soundQueues (s .profile) now 0 l && counted s) (sym (four-long qs h)))
   where
     qs : List Queue
     qs = s .queues
@@ -109,16 +102,6 @@ pub no-queue : (profile now k : ℕ) (qs : List Queue) (i : ℕ) → length qs �
 unfolding soundQueues
 no-queue profile now k qs i h = rw (drop-of-length-le qs h)
 
--- one test that fails fails all
-fails-second : (t u v rest : Bool) → v ≡ false → t && (u && (v && rest)) ≡ false
-fails-second t u v rest h = rw (h, and-false, and-false)
-
-fails-third : (t u v w rest : Bool) → w ≡ false → t && (u && (v && (w && rest))) ≡ false
-fails-third t u v w rest h = rw (h, and-false, and-false, and-false)
-
-fails-fourth : (t u v w x rest : Bool) → x ≡ false → t && (u && (v && (w && (x && rest)))) ≡ false
-fails-fourth t u v w x rest h = rw (h, and-false, and-false, and-false, and-false)
-
 -- a number that is not sound fails the state
 module _ (s : State) where
   pub unsound-live : (s .live ≡ 1 → ⊥) → soundState s ≡ false
@@ -127,18 +110,15 @@ module _ (s : State) where
 
   pub unsound-control : steered s ≡ false → soundState s ≡ false
   unfolding soundState sound
-  unsound-control h = fails-second (allTidy (s .queues)) (eqb (s .live) 1) (steered s) _ h
+  unsound-control h = simp (h, and-false)
 
   pub unsound-time : passesEnd (s .clock .time) ≡ true → soundState s ≡ false
   unfolding soundState sound passesEnd
-  unsound-time h =
-      fails-third (allTidy (s .queues)) (eqb (s .live) 1) (steered s) (leb (s .clock .time) endOfTime) _
-      (lt-leb (s .clock .time) endOfTime (ltb-true endOfTime (s .clock .time) h))
+  unsound-time h = simp (lt-leb (s .clock .time) endOfTime (ltb-true endOfTime (s .clock .time) h), and-false)
 
   pub unsound-last : lasting s ≡ false → soundState s ≡ false
   unfolding soundState sound
-  unsound-last h =
-      fails-fourth (allTidy (s .queues)) (eqb (s .live) 1) (steered s) (leb (s .clock .time) endOfTime) (lasting s) _ h
+  unsound-last h = simp (h, and-false)
 
 pub in-time : (time : ℕ) → passesEnd time ≡ false → leb time endOfTime ≡ true
 unfolding passesEnd

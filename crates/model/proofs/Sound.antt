@@ -123,34 +123,25 @@ last-admits v h some = (
 -- the clock
 pub moved-sound : (v : View) (stamp : ℕ) → stepped (v .clock) stamp .time ≤ endOfTime → SoundView v → SoundView (moved v stamp)
 moved-sound v stamp k h =
-    record {
-      live = h .live;
-      control = h .control;
-      time = k;
-      last = record { flag = h .last .flag; past = omega (arith, h .last .past); fields = h .last .fields };
-      queues =
-          fours-each (Queued (v .control .profile) (v .clock .time))
-          (Queued (v .control .profile) (stepped (v .clock) stamp .time))
-          (λ (ps : List Packet). ps)
-          (λ n ps. queued-later (v .control .profile) (v .clock .time) (stepped (v .clock) stamp .time) n ps (omega arith))
-          (v .waiting) (h .queues);
-      counts = h .counts;
-    }
+    let past : v .last .at ≤ stepped (v .clock) stamp .time = omega (arith, h .last .past) in
+    let queues =
+    fours-each (Queued (v .control .profile) (v .clock .time))
+    (Queued (v .control .profile) (stepped (v .clock) stamp .time))
+    (λ (ps : List Packet). ps)
+    (λ n ps. queued-later (v .control .profile) (v .clock .time) (stepped (v .clock) stamp .time) n ps (omega arith))
+    (v .waiting) (h .queues) in
+    search (k, past, queues, h)
 
 -- expiry
 expired-sound : (v : View) → SoundView v → SoundView (expired v)
 expired-sound v h =
     let now = v .clock .time in
-    record {
-      live = h .live;
-      control = h .control;
-      time = h .time;
-      last = h .last;
-      queues =
-          fours-each (Queued (v .control .profile) now) (Queued (v .control .profile) now) (withoutExpired now)
-          (λ n ps. queued-expired (v .control .profile) now n now ps) (v .waiting) (h .queues);
-      counts = record { sum = omega (arith, h .counts .sum, many-expired now (v .waiting)); most = h .counts .most };
-    }
+    let queues =
+    fours-each (Queued (v .control .profile) now) (Queued (v .control .profile) now) (withoutExpired now)
+    (λ n ps. queued-expired (v .control .profile) now n now ps) (v .waiting) (h .queues) in
+    let counts : SoundCounts (howMany (expired v .waiting)) (expired v .counts) =
+    record { sum = omega (arith, h .counts .sum, many-expired now (v .waiting)); most = h .counts .most } in
+    search (queues, counts, h)
 
 pub refreshed-sound : (v : View) (stamp : ℕ) → stepped (v .clock) stamp .time ≤ endOfTime → SoundView v
     → SoundView (refreshed v stamp)

@@ -6,14 +6,8 @@ use Rattle.gate.proofs.blank_state.Tie as tie
 empty-requires : tie.Need-empty-requires
 empty-requires c κs = search needs
 
-no-last-requires : tie.Need-no-last-requires
-no-last-requires c κs = search needs
-
-no-counts-requires : tie.Need-no-counts-requires
-no-counts-requires c κs = search needs
-
 returns : tie.Need-returns
-returns c = rw (c .no-counts .ensures, c .before .no-last .ensures, c .before .before .empty .ensures)
+returns c = rw (c .empty .ensures)
 
 pub blank-state-spec : {M : Type 1} → statement M
-blank-state-spec = tie.close (tie.spec empty-requires no-last-requires no-counts-requires returns)
+blank-state-spec = tie.close (tie.spec empty-requires returns)
