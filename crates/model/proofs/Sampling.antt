@@ -7,13 +7,14 @@ use mathlib.Core.List.{List}
 use borrow.Author.Tests.{le-ltb}
 use Rattle.rules.specs.Clock.{stepOf, goesBack, passesEnd}
 use Rattle.rules.specs.Refusals.{firstOf}
-use Rattle.rules.specs.Samples.{probes, busyOf, goodWords, badCount}
+use Rattle.rules.specs.Samples.{probes, busyOf, goodWords, sampleOf, sampleNumber, badCount}
+use Rattle.rules.proofs.Cases.{split}
 use Rattle.rules.proofs.Probes.{busy-le}
 use Rattle.model.specs.Packets.{Holding}
 use Rattle.model.specs.Calls.{words, count}
 use Rattle.model.specs.State.{Status, sound}
 use Rattle.model.specs.Effects.{Result, stepped, effect}
-use Rattle.model.specs.Gate.{checks, unlessRefused, call}
+use Rattle.model.specs.Gate.{ownChecks, checks, unlessRefused, call}
 
 -- the checks of a sample, with whether it is bad
 abbrev judged : {h : Holding} → Status h → (stamp : ℕ) → (bad : Bool) → Result h → Result h
@@ -62,3 +63,9 @@ bad-alike v stamp busy ws b g =
     (effect v (count stamp busy)) (effect v (words stamp ws))
     ∙ ap (λ (u : Bool). judged v stamp u (effect v (words stamp ws))) (sym (ap not g))
     ∙ sym (call-words v stamp ws)
+
+-- the number of a sample by words is that of what is read
+pub words-number : {h : Holding} (v : Status h) (stamp : ℕ) (ws : List ℕ)
+    → firstOf (ownChecks v (words stamp ws)) ≡ sampleNumber (sampleOf ws)
+unfolding firstOf sampleOf sampleNumber
+words-number v stamp ws = split (goodWords ws) (λ e. rw e refl) (λ e. rw e refl)
