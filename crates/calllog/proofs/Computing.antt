@@ -1,0 +1,17 @@
+-- What a run of a log on literal bytes opens, by name.
+use Rattle.packing.specs.Packing.{filled, allAre, padded}
+use Rattle.model.proofs.Computing.{of-runs}
+use Rattle.queue.specs.Layout.{packed}
+use Rattle.gate.specs.Layout.{soundState, callOn, makeState}
+use Rattle.calllog.specs.Records.{twoAt, fourAt, recordAt, askedBy}
+use Rattle.calllog.specs.Steps.{stepOn}
+use Rattle.calllog.specs.Lines.{digitsIn, decimal, lineOf, lastLine}
+use Rattle.calllog.specs.Text.{stateFrom, linesFrom, outputFrom}
+
+unfoldable pub of-states : Type 0
+unfolding of-runs filled allAre padded packed soundState callOn makeState
+of-states = Unit {0}
+
+unfoldable pub of-logs : Type 0
+unfolding outputFrom stateFrom linesFrom lineOf lastLine decimal digitsIn stepOn askedBy recordAt twoAt fourAt
+of-logs = Unit {0}

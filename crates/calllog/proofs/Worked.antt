@@ -1,0 +1,111 @@
+-- Worked examples of document 01's call log, each computed from the definitions.
+use Prim.Native.Nat.{ℕ}
+use mathlib.Core.Path.{_≡_, refl}
+use mathlib.Core.List.{List, [], _∷_, _++_, map}
+use Rattle.model.specs.declared.Answer.{Answer}
+use Rattle.model.specs.declared.Answer.the-variants.{Ready, Taken, Sent, Idle, Closed, Refused}
+use Rattle.model.specs.declared.Packet.{Packet}
+use Rattle.model.specs.Calls.{count, offer, poll}
+use Rattle.gate.specs.declared.State.{State}
+use Rattle.gate.specs.declared.Outcome.{Outcome}
+use Rattle.gate.specs.Layout.{outcome, makeState}
+use Rattle.calllog.specs.declared.Record.{Record}
+use Rattle.calllog.specs.Records.{twoAt, fourAt, recordAt, makes, calls, unknown, askedBy}
+use Rattle.calllog.specs.Steps.{atStart, stepOn}
+use Rattle.calllog.specs.Lines.{ascii, digitsIn, decimal, lineOf, lastLine}
+use Rattle.calllog.specs.Text.{outputOf, recordsDone, blockRoom}
+use Rattle.calllog.proofs.Computing.{of-states, of-logs}
+
+-- "kind (1), priority (1), on-time (2), lifetime (4), identifier (4), stamp (4)", low byte first, from any place
+sixteen : List ℕ
+sixteen = 1 ∷ 2 ∷ 3 ∷ 4 ∷ 5 ∷ 6 ∷ 7 ∷ 8 ∷ 9 ∷ 10 ∷ 11 ∷ 12 ∷ 13 ∷ 14 ∷ 15 ∷ 16 ∷ []
+
+counted : Record
+counted =
+    record { kind = 1; priority = 2; ontime = 1027; lifetime = 134678021; id = 202050057; stamp = 269422093 }
+
+fields : (recordAt sixteen 0 ≡ counted) × (recordAt (90 ∷ 91 ∷ sixteen) 2 ≡ counted)
+unfolding sixteen counted recordAt fourAt twoAt
+fields = (refl, refl)
+
+-- each kind; the busy count is the whole identifier field, over 16 bits too
+ofKind : ℕ → Record
+ofKind kind = record { kind = kind; priority = 2; ontime = 400; lifetime = 1000; id = 65541; stamp = 9 }
+
+kinds :
+    map (λ (kind : ℕ). askedBy (ofKind kind)) (0 ∷ 1 ∷ 2 ∷ 3 ∷ 4 ∷ 255 ∷ [])
+    ≡ makes (record { profile = 2; stamp = 9 })
+    ∷ calls (count 9 65541)
+    ∷ calls (offer 9 (record { id = 65541; priority = 2; ontime = 400; lifetime = 1000 }))
+    ∷ calls (poll 9)
+    ∷ unknown
+    ∷ unknown
+    ∷ []
+unfolding askedBy ofKind
+kinds = refl
+
+-- "A kind above 3 gets BAD-CALL": 10, and the state as it was
+unknown-kind : (s : State) → stepOn s (ofKind 4) ≡ outcome s (Refused 10)
+unfolding stepOn askedBy ofKind
+unknown-kind s = refl
+
+-- a make takes the place of whatever state there was, and a refused one leaves the not live state
+made-anew : (s : State) → stepOn s (ofKind 0) ≡ makeState (record { profile = 2; stamp = 9 })
+unfolding stepOn askedBy ofKind
+made-anew s = refl
+
+refused-make : (s : State)
+    → stepOn s (record { kind = 0; priority = 4; ontime = 0; lifetime = 0; id = 0; stamp = 9 }) ≡ outcome atStart (Refused 1)
+unfolding of-states of-logs
+refused-make s = refl
+
+-- "Before a successful kind 0, kinds 1 to 3 meet NO-STATE"
+nine : Outcome
+nine = outcome atStart (Refused 9)
+
+before-make : map (λ (kind : ℕ). stepOn atStart (ofKind kind)) (1 ∷ 2 ∷ 3 ∷ []) ≡ nine ∷ nine ∷ nine ∷ []
+unfolding of-states of-logs ofKind nine
+before-make = refl
+
+-- "in decimal without leading zeros"
+digits :
+    map decimal (0 ∷ 7 ∷ 10 ∷ 49200 ∷ 18446744073709551615 ∷ [])
+    ≡ map ascii ("0" ∷ "7" ∷ "10" ∷ "49200" ∷ "18446744073709551615" ∷ [])
+unfolding decimal digitsIn
+digits = refl
+
+-- a line for each answer: SENT has the identifier
+sent : Packet
+sent = record { id = 8; priority = 1; ontime = 400; lifetime = 60000; arrival = 100 }
+
+lines :
+    map lineOf (Ready ∷ Taken ∷ Sent sent ∷ Idle ∷ Closed 49600 ∷ Refused 2 ∷ [])
+    ≡ map ascii ("READY\n" ∷ "TAKEN\n" ∷ "SENT 8\n" ∷ "IDLE\n" ∷ "CLOSED 49600\n" ∷ "REFUSED 2\n" ∷ [])
+unfolding of-logs sent
+lines = refl
+
+-- "END, or TORN if 1 to 15 bytes are left over"
+last-lines :
+    map lastLine (0 ∷ 1 ∷ 15 ∷ 16 ∷ 17 ∷ 32 ∷ [])
+    ≡ map ascii ("END\n" ∷ "TORN\n" ∷ "TORN\n" ∷ "END\n" ∷ "TORN\n" ∷ "END\n" ∷ [])
+unfolding lastLine
+last-lines = refl
+
+-- records in their order: an unknown kind, a make, a sample of 65,541 busy probes, and three bytes
+log : List ℕ
+log =
+    (9 ∷ 0 ∷ 0 ∷ 0 ∷ 0 ∷ 0 ∷ 0 ∷ 0 ∷ 0 ∷ 0 ∷ 0 ∷ 0 ∷ 0 ∷ 0 ∷ 0 ∷ 0 ∷ [])
+    ++ (0 ∷ 1 ∷ 0 ∷ 0 ∷ 0 ∷ 0 ∷ 0 ∷ 0 ∷ 0 ∷ 0 ∷ 0 ∷ 0 ∷ 5 ∷ 0 ∷ 0 ∷ 0 ∷ [])
+    ++ (1 ∷ 0 ∷ 0 ∷ 0 ∷ 0 ∷ 0 ∷ 0 ∷ 0 ∷ 5 ∷ 0 ∷ 1 ∷ 0 ∷ 6 ∷ 0 ∷ 0 ∷ 0 ∷ [])
+    ++ (3 ∷ 0 ∷ 0 ∷ [])
+
+output : outputOf log ≡ ascii "REFUSED 10\nREADY\nREFUSED 4\nTORN\n"
+unfolding log of-states of-logs
+output = refl
+
+-- a block does the whole records that it holds, as far as there is room for their lines
+done :
+    map (λ (bytes : ℕ). recordsDone bytes blockRoom) (0 ∷ 15 ∷ 16 ∷ 33 ∷ 65535 ∷ 65536 ∷ 65552 ∷ [])
+    ≡ 0 ∷ 0 ∷ 1 ∷ 2 ∷ 4095 ∷ 4096 ∷ 4096 ∷ []
+unfolding recordsDone
+done = refl
