@@ -4,7 +4,7 @@
 
 use std::env;
 use std::fs::File;
-use std::io::Write;
+use std::io::{ErrorKind, Write};
 use std::path::PathBuf;
 use std::process::{Command, Stdio};
 use std::thread;
@@ -263,4 +263,27 @@ fn a_failed_read_has_no_last_line() {
         .expect("the program ends");
     assert_eq!(output.stdout, b"");
     assert_eq!(output.stderr, b"replay: a read failed\n");
+}
+
+/// The device takes no byte. The program says so and ends: the log's rest, more than a pipe holds, stays unread.
+#[test]
+fn a_failed_write_ends_the_program() {
+    let full = File::options()
+        .write(true)
+        .open("/dev/full")
+        .expect("the device opens");
+    let mut child = Command::new(program())
+        .stdin(Stdio::piped())
+        .stdout(full)
+        .stderr(Stdio::piped())
+        .spawn()
+        .expect("the program starts");
+    let log = bytes(&vec![poll(1); 1 << 16]);
+    let unread = child.stdin.take().expect("a pipe").write_all(&log);
+    let output = child.wait_with_output().expect("the program ends");
+    assert_eq!(output.stderr, b"replay: a write failed\n");
+    assert_eq!(
+        unread.expect_err("nobody reads").kind(),
+        ErrorKind::BrokenPipe
+    );
 }
