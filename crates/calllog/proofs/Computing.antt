@@ -6,12 +6,12 @@ use Rattle.gate.specs.Layout.{soundState, callOn, makeState}
 use Rattle.calllog.specs.Records.{twoAt, fourAt, recordAt, askedBy}
 use Rattle.calllog.specs.Steps.{stepOn}
 use Rattle.calllog.specs.Lines.{digitsIn, decimal, lineOf, lastLine}
-use Rattle.calllog.specs.Text.{stateFrom, linesFrom, outputFrom}
+use Rattle.calllog.specs.Text.{reachedFrom, linesFrom, outputFrom}
 
 unfoldable pub of-states : Type 0
 unfolding of-runs filled allAre padded packed soundState callOn makeState
 of-states = Unit {0}
 
 unfoldable pub of-logs : Type 0
-unfolding outputFrom stateFrom linesFrom lineOf lastLine decimal digitsIn stepOn askedBy recordAt twoAt fourAt
+unfolding outputFrom reachedFrom linesFrom lineOf lastLine decimal digitsIn stepOn askedBy recordAt twoAt fourAt
 of-logs = Unit {0}

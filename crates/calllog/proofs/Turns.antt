@@ -10,9 +10,9 @@ use lib.ListN.{length}
 use Rattle.gate.specs.declared.State.{State}
 use Rattle.calllog.specs.Records.{recordBytes}
 use Rattle.calllog.specs.Lines.{lastLine}
-use Rattle.calllog.specs.Text.{stateFrom, linesFrom, outputFrom, recordsDone}
+use Rattle.calllog.specs.Text.{reachedFrom, linesFrom, outputFrom, recordsDone}
 use Rattle.calllog.specs.Text.{block, blockBytes, blockRoom, goesOn, turnText, Whole}
-use Rattle.calllog.specs.Text.{turns, joined, AllFull, TurnsAreTheProgram}
+use Rattle.calllog.specs.Text.{turns, oneLog, AllFull, TurnsAreTheProgram}
 use Rattle.calllog.proofs.Lengths.{lines-le, done-room}
 use Rattle.calllog.proofs.Pieces.{pieces}
 
@@ -55,12 +55,12 @@ full : (piece : List ℕ) → length piece ≡ blockBytes → recordsDone (lengt
 full piece e = ap (λ (n : ℕ). recordsDone n blockRoom) e ∙ held blockBytes (omega arith)
 
 pub turns-are-the-program : TurnsAreTheProgram
-unfolding turns joined AllFull outputFrom
+unfolding turns oneLog AllFull outputFrom
 turns-are-the-program s [] last f h =
     ended s last (lt-leb _ _ h)
     ∙ ap (λ (n : ℕ). linesFrom s last n ++ lastLine (length last)) (held (length last) (omega arith))
 turns-are-the-program s (piece ∷ rest) last f h =
     ap₂ (λ (x y : List ℕ). x ++ y)
     (no-last s piece false (ap (leb blockBytes) (f .0)) ∙ ap (linesFrom s piece) (full piece (f .0)))
-    (turns-are-the-program (stateFrom s piece block) rest last (f .1) h)
-    ∙ sym (pieces s piece (joined rest last) block (omega (arith, f .0)))
+    (turns-are-the-program (reachedFrom s piece block) rest last (f .1) h)
+    ∙ sym (pieces s piece (oneLog rest last) block (omega (arith, f .0)))

@@ -15,6 +15,7 @@ pub record Control : Type 0 where
   pub profile : ℕ
   pub tuning : Tuning
 
+-- a control from its groups
 abbrev pub controlOf : ℕ → Tuning → Control
 controlOf profile tuning = record { profile = profile; tuning = tuning }
 
@@ -22,6 +23,7 @@ controlOf profile tuning = record { profile = profile; tuning = tuning }
 abbrev pub freshTuning : Tuning
 freshTuning = record { level = 0; duty = profile3 .leastduty; smoothed = 0; kept = 0; pairing = 0 }
 
+-- a control as make leaves it
 abbrev pub freshControl : ℕ → Control
 freshControl profile = controlOf profile freshTuning
 
@@ -29,6 +31,7 @@ freshControl profile = controlOf profile freshTuning
 abbrev pub noTuning : Tuning
 noTuning = record { level = 0; duty = 0; smoothed = 0; kept = 0; pairing = 0 }
 
+-- that of a state that is not live
 abbrev pub noControl : Control
 noControl = controlOf 0 noTuning
 
@@ -51,6 +54,7 @@ tuningRules profile t =
 abbrev pub controlRules : Control → List Bool
 controlRules k = isProfile (k .profile) ∷ allOf (tuningRules (k .profile) (k .tuning)) ∷ []
 
+-- a control all of whose rules hold
 unfoldable pub soundControl : Control → Bool
 soundControl k = allOf (controlRules k)
 

@@ -48,9 +48,11 @@ pub record KeepsCeiling (k : Control) (ontime : ℕ) : Type 0 where
 abbrev pub Allowed : Control → (ontime : ℕ) → Type 0
 Allowed k ontime = (soundControl k ≡ true) × (ontimeAllowed (k .profile) ontime ≡ true)
 
+-- what every profile owes
 abbrev pub AllKeep : Type 0
 AllKeep = (k : Control) (ontime : ℕ) → Allowed k ontime → Keeps k ontime
 
+-- what those owe besides that claim the ceiling
 abbrev pub ClaimantsKeep : Type 0
 ClaimantsKeep =
     (k : Control) (ontime : ℕ) → Allowed k ontime → claimsCeiling (k .profile) ≡ true → KeepsCeiling k ontime

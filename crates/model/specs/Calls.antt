@@ -18,6 +18,7 @@ pub data Call : Type 0 where
   offer : (stamp : ℕ) → Offer → Call
   poll : (stamp : ℕ) → Call
 
+-- every call has a stamp
 abbrev pub stampOf : Call → ℕ
 stampOf (words stamp ws) = stamp
 stampOf (count stamp busy) = stamp
@@ -33,6 +34,7 @@ pub record Making : Type 0 where
 abbrev pub plainReply : (kind number : ℕ) → Reply
 plainReply kind number = record { packet = noPacket; number = number; kind = kind }
 
+-- READY 0, TAKEN 1, SENT 2, IDLE 3, CLOSED 4, REFUSED 5
 abbrev pub replyOf : Answer → Reply
 replyOf Ready = plainReply 0 0
 replyOf Taken = plainReply 1 0

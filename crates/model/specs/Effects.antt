@@ -21,6 +21,7 @@ pub record Result (h : Holding) : Type 0 where
   pub view : Status h
   pub answer : Answer
 
+-- the two side by side
 abbrev pub result : {h : Holding} → Status h → Answer → Result h
 result v a = record { view = v; answer = a }
 
@@ -70,6 +71,7 @@ joined {h} v p = withCounts (withWaiting v (h .join p (v .waiting))) (oneAccepte
 abbrev pub closedFor : {h : Holding} → Status h → ℕ
 closedFor v = closedAfter (v .control) (v .last .ontime)
 
+-- the time "since that admission"
 abbrev pub sinceLast : {h : Holding} → Status h → ℕ
 sinceLast v = v .clock .time - v .last .at
 
@@ -90,6 +92,7 @@ polled v nothing = result v Idle
 polled v (chosen p left) =
     cond (closed v) (result v (Closed (closedFor v - sinceLast v))) (result (admits v p left) (Sent p))
 
+-- what each call does that is not refused
 unfoldable pub effect : {h : Holding} → Status h → Call → Result h
 effect v (words stamp ws) = result (sampledBy v stamp (busyOf ws probes)) Taken
 effect v (count stamp busy) = result (sampledBy v stamp busy) Taken

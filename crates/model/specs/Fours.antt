@@ -11,6 +11,7 @@ pub record Four (A : Type 0) : Type 0 where
   pub c2 : List A
   pub c3 : List A
 
+-- the four of them, index 0 first
 abbrev pub four : {A : Type 0} → List A → List A → List A → List A → Four A
 four a b c d = record { c0 = a; c1 = b; c2 = c; c3 = d }
 

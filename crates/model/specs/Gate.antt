@@ -48,6 +48,7 @@ clockChecks isSound clock stamp own =
     ∷ check 3 (passesEnd (stepped clock stamp .time))
     ∷ own
 
+-- the whole table of a call, in the order in which it is judged
 unfoldable pub checks : {h : Holding} → Status h → Call → List Check
 checks v c = clockChecks (sound v) (v .clock) (stampOf c) (ownChecks v c)
 

@@ -36,6 +36,7 @@ choiceOf [] [] (p ∷ c) d = chosen p (four [] [] c d)
 choiceOf [] [] [] (p ∷ d) = chosen p (four [] [] [] d)
 choiceOf [] [] [] [] = nothing
 
+-- the packet that is to go, and those that then wait
 unfoldable pub choice : Four Packet → Chosen (Four Packet)
 choice q = choiceOf (q .c0) (q .c1) (q .c2) (q .c3)
 

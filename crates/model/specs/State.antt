@@ -93,5 +93,6 @@ statusRules {h} v =
     ∷ allOf (countRules (h .total (v .waiting)) (v .counts))
     ∷ []
 
+-- "A state is sound if" every rule holds
 unfoldable pub sound : {h : Holding} → Status h → Bool
 sound v = allOf (statusRules v)

@@ -11,7 +11,7 @@ use Rattle.calllog.specs.declared.Progress.{Progress}
 use Rattle.calllog.specs.Records.{recordBytes}
 use Rattle.calllog.specs.Steps.{atStart}
 use Rattle.calllog.specs.Buffers.{Put}
-use Rattle.calllog.specs.Text.{stateFrom, blockBytes, goesOn, turnText, Whole}
+use Rattle.calllog.specs.Text.{reachedFrom, blockBytes, goesOn, turnText, Whole}
 use Rattle.calllog.proofs.Pieces.{state-past}
 use Rattle.replay.specs.Program.{Turned, Reached}
 
@@ -19,7 +19,7 @@ use Rattle.replay.specs.Program.{Turned, Reached}
 pub handed-on :
     {buffer after : List ℕ} (s : State) (piece : List ℕ) (failed : Bool) (r : Progress) (more : Bool)
     → length piece ≤ blockBytes
-    → r .state ≡ stateFrom s piece (r .used)
+    → r .state ≡ reachedFrom s piece (r .used)
     → Put buffer 0 (turnText s piece failed) (r .end) after
     → r .more ≡ goesOn piece
     → Whole (length piece) (r .used) (r .more)
@@ -30,7 +30,7 @@ handed-on s piece failed r more fits state text goes-on whole on =
       piece = piece;
       failed = failed;
       fits = fits;
-      state = state ∙ ap (stateFrom s piece) (whole .done);
+      state = state ∙ ap (reachedFrom s piece) (whole .done);
       text = text;
       full = λ e. omega (arith, fits, leb-true blockBytes (length piece) (sym goes-on ∙ on e));
     }
@@ -47,8 +47,8 @@ reached-on {at} {r} h more t =
       log = h .log ++ t .piece;
       state =
           t .state
-          ∙ ap (λ (x : State). stateFrom x (t .piece) m) (h .state)
+          ∙ ap (λ (x : State). reachedFrom x (t .piece) m) (h .state)
           ∙ sym (state-past atStart (h .log) (t .piece) n m cut)
-          ∙ ap (stateFrom atStart (h .log ++ t .piece)) (sym k);
+          ∙ ap (reachedFrom atStart (h .log ++ t .piece)) (sym k);
       cut = λ e. omega (arith, cut, t .full e, length-append (h .log) (t .piece));
     }

@@ -10,7 +10,7 @@ use Rattle.calllog.specs.declared.Progress.{Progress}
 use Rattle.calllog.specs.Records.{recordBytes}
 use Rattle.calllog.specs.Steps.{atStart}
 use Rattle.calllog.specs.Buffers.{Put}
-use Rattle.calllog.specs.Text.{stateFrom, blockBytes, turnText}
+use Rattle.calllog.specs.Text.{reachedFrom, blockBytes, turnText}
 
 -- a piece was read and done on a state: all its whole records, and its text lies in the buffer; the program goes
 -- on only behind a full block
@@ -18,12 +18,12 @@ pub record Turned (s : State) (buffer : List ℕ) (r : Progress) (after : List �
   pub piece : List ℕ
   pub failed : Bool
   pub fits : length piece ≤ blockBytes
-  pub state : r .state ≡ stateFrom s piece (length piece / recordBytes)
+  pub state : r .state ≡ reachedFrom s piece (length piece / recordBytes)
   pub text : Put buffer 0 (turnText s piece failed) (r .end) after
   pub full : r .more ≡ true → length piece ≡ blockBytes
 
 -- the state is that of a log from its start, and a log that goes on is cut where a record ends
 pub record Reached (r : Progress) : Type 0 where
   pub log : List ℕ
-  pub state : r .state ≡ stateFrom atStart log (length log / recordBytes)
+  pub state : r .state ≡ reachedFrom atStart log (length log / recordBytes)
   pub cut : r .more ≡ true → length log ≡ recordBytes * (length log / recordBytes)
