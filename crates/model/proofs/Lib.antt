@@ -21,5 +21,8 @@ pub mod DeliverySteps
 pub mod Delivery
 pub mod Sampling
 pub mod Computing
+pub mod Worked
+pub mod WorkedStates
 pub mod SampleLog
 pub mod DeliveryExample
+pub mod Stated

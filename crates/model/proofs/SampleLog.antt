@@ -8,15 +8,11 @@ use Rattle.model.specs.declared.Answer.{Answer}
 use Rattle.model.specs.declared.Answer.the-variants.{Ready, Taken, Sent, Idle, Closed, Refused}
 use Rattle.model.specs.Packets.{packetOf}
 use Rattle.model.specs.Calls.{Call, count, offer, poll, Making}
-use Rattle.model.specs.State.{View, fresh}
 use Rattle.model.specs.Gate.{make}
 use Rattle.model.specs.Journal.{opened, journalOf}
 use Rattle.model.specs.Claims.{viewAfter, events}
 use Rattle.model.proofs.Computing.{of-runs}
-
-answersOf : View → List Call → List Answer
-unfolding of-runs
-answersOf v cs = map (λ (e : Call × Answer). e .1) (events v cs)
+use Rattle.model.proofs.Worked.{made, answersOf}
 
 -- the records of the sample log
 sampleMake : Making
@@ -57,10 +53,6 @@ sample-admissions :
     ≡ record { at = 200; ontime = 400 } ∷ []
 unfolding of-runs sampleMake sampleCalls
 sample-admissions = refl
-
--- a gate made at stamp 0
-made : ℕ → View
-made profile = fresh (record { profile = profile; stamp = 0 })
 
 -- "Level 0, full load, profile 1: four samples to reach level 4"
 levelAfter : List Call → ℕ

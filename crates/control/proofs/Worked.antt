@@ -1,0 +1,284 @@
+-- Worked examples of what documents 01 and 02 say of what samples steer and of the wait. Each side computes to the other, so a
+-- definition that reads a sentence otherwise fails here.
+use Prim.Native.Nat.{ℕ, _*_, _≤_}
+use mathlib.Core.Path.{_≡_, refl}
+use mathlib.Core.Bool.{Bool, true, false}
+use mathlib.Core.List.{List, [], _∷_, map}
+use Rattle.rules.specs.Profiles.{within, reactiveOf, mostOntime, ontimeAllowed}
+use Rattle.rules.specs.Levels.{wantedBy, towards, waitBy}
+use Rattle.rules.specs.Duty.{smoothedOf, offsetOf, dutyOf}
+use Rattle.rules.specs.Wait.{adaptiveWait, startOf}
+use Rattle.control.specs.declared.Tuning.{Tuning}
+use Rattle.control.specs.Control.{Control, controlOf, freshControl, noControl, pairingSound, soundControl, sampled}
+use Rattle.control.specs.Wait.{waitOf, closedAfter}
+use Rattle.control.specs.Owed.{spare, leastGap, quiet, claimsCeiling}
+use Rattle.control.proofs.Owed.{floors, all-keep, claimants-keep}
+
+-- a control by its numbers: profile, level, duty, smoothed load, kept sample, whether one is kept
+abbrev control : (profile level duty smoothed kept pairing : ℕ) → Control
+control profile level duty smoothed kept pairing =
+    controlOf profile (record { level = level; duty = duty; smoothed = smoothed; kept = kept; pairing = pairing })
+
+-- "A fresh state: .. level 0, duty 600,000, smoothed load 0, no sample kept"
+fresh-controls :
+    map freshControl (1 ∷ 2 ∷ 3 ∷ [])
+    ≡ control 1 0 600000 0 0 0 ∷ control 2 0 600000 0 0 0 ∷ control 3 0 600000 0 0 0 ∷ []
+fresh-controls = refl
+
+-- "the all-zero, not live state"
+all-zero : noControl ≡ control 0 0 0 0 0 0
+all-zero = refl
+
+-- A sound control keeps all of the rules below; in each example the rest of the control is sound.
+unfoldable of-soundness : Type 0
+unfolding within pairingSound soundControl
+of-soundness = Unit {0}
+
+-- "profile 1 to 3"
+sound-profiles :
+    map (λ (p : ℕ). soundControl (control p 0 600000 0 0 0)) (0 ∷ 1 ∷ 2 ∷ 3 ∷ 4 ∷ [])
+    ≡ false ∷ true ∷ true ∷ true ∷ false ∷ []
+unfolding of-soundness
+sound-profiles = refl
+
+-- "level at most 4", in every profile
+sound-levels :
+    map (λ (p : ℕ). map (λ (level : ℕ). soundControl (control p level 600000 0 0 0)) (0 ∷ 4 ∷ 5 ∷ [])) (1 ∷ 2 ∷ 3 ∷ [])
+    ≡ (true ∷ true ∷ false ∷ []) ∷ (true ∷ true ∷ false ∷ []) ∷ (true ∷ true ∷ false ∷ []) ∷ []
+unfolding of-soundness
+sound-levels = refl
+
+-- "duty 600,000 to 30,000,000", in every profile
+sound-duties :
+    map (λ (p : ℕ). map (λ (duty : ℕ). soundControl (control p 0 duty 0 0 0)) (599999 ∷ 600000 ∷ 30000000 ∷ 30000001 ∷ []))
+    (1 ∷ 2 ∷ 3 ∷ [])
+    ≡ (false ∷ true ∷ true ∷ false ∷ []) ∷ (false ∷ true ∷ true ∷ false ∷ []) ∷ (false ∷ true ∷ true ∷ false ∷ []) ∷ []
+unfolding of-soundness
+sound-duties = refl
+
+-- "loads at most 1,000,000", in every profile
+sound-smoothed-loads :
+    map (λ (p : ℕ). map (λ (load : ℕ). soundControl (control p 0 600000 load 0 0)) (1 ∷ 1000000 ∷ 1000001 ∷ []))
+    (1 ∷ 2 ∷ 3 ∷ [])
+    ≡ (true ∷ true ∷ false ∷ []) ∷ (true ∷ true ∷ false ∷ []) ∷ (true ∷ true ∷ false ∷ []) ∷ []
+unfolding of-soundness
+sound-smoothed-loads = refl
+
+sound-kept-loads :
+    map (λ (load : ℕ). soundControl (control 3 0 600000 0 load 1)) (0 ∷ 1 ∷ 1000000 ∷ 1000001 ∷ [])
+    ≡ true ∷ true ∷ true ∷ false ∷ []
+unfolding of-soundness
+sound-kept-loads = refl
+
+-- "a sample kept only in profile 3"
+sample-kept-only-in-profile-3 :
+    map (λ (p : ℕ). soundControl (control p 0 600000 0 0 1)) (1 ∷ 2 ∷ 3 ∷ []) ≡ false ∷ false ∷ true ∷ []
+unfolding of-soundness
+sample-kept-only-in-profile-3 = refl
+
+-- "everything unused is zero": "the kept sample when none is kept"
+nothing-in-an-unused-sample :
+    map (λ (p : ℕ). soundControl (control p 0 600000 0 1 0)) (1 ∷ 2 ∷ 3 ∷ []) ≡ false ∷ false ∷ false ∷ []
+unfolding of-soundness
+nothing-in-an-unused-sample = refl
+
+-- "whether one is kept" is yes or no
+one-is-kept-or-none : map (λ (n : ℕ). soundControl (control 3 0 600000 0 0 n)) (0 ∷ 1 ∷ 2 ∷ []) ≡ true ∷ true ∷ false ∷ []
+unfolding of-soundness
+one-is-kept-or-none = refl
+
+-- odd, and sound by the letter: profiles 1 and 2 with a duty and a smoothed load, profile 3 with a level and a sample
+odd-but-sound :
+    map soundControl
+    (control 1 4 12345678 1000000 0 0 ∷ control 2 3 30000000 680000 0 0 ∷ control 3 4 12345678 1000000 1000000 1 ∷ [])
+    ≡ true ∷ true ∷ true ∷ []
+unfolding of-soundness
+odd-but-sound = refl
+
+-- What a control is after a sample, and after each of several.
+unfoldable of-samples : Type 0
+unfolding within reactiveOf wantedBy towards smoothedOf offsetOf dutyOf sampled
+of-samples = Unit {0}
+
+course : Control → (loads : List ℕ) → List Control
+unfolding of-samples
+course k [] = []
+course k (load ∷ loads) = let next = sampled k load in next ∷ course next loads
+
+-- "Each sample moves the level by at most one towards the wanted one": up, down, or not at all
+sample-of-profile-1 :
+    map (sampled (control 1 2 700000 123456 0 0)) (1000000 ∷ 500000 ∷ 499999 ∷ 400000 ∷ 399999 ∷ 0 ∷ [])
+    ≡ control 1 3 700000 123456 0 0
+    ∷ control 1 3 700000 123456 0 0
+    ∷ control 1 2 700000 123456 0 0
+    ∷ control 1 2 700000 123456 0 0
+    ∷ control 1 1 700000 123456 0 0
+    ∷ control 1 1 700000 123456 0 0
+    ∷ []
+unfolding of-samples
+sample-of-profile-1 = refl
+
+sample-of-profile-2 :
+    map (sampled (control 2 3 700000 123456 0 0)) (1000000 ∷ 650001 ∷ 650000 ∷ 500000 ∷ 499999 ∷ 0 ∷ [])
+    ≡ control 2 4 700000 123456 0 0
+    ∷ control 2 4 700000 123456 0 0
+    ∷ control 2 3 700000 123456 0 0
+    ∷ control 2 3 700000 123456 0 0
+    ∷ control 2 2 700000 123456 0 0
+    ∷ control 2 2 700000 123456 0 0
+    ∷ []
+unfolding of-samples
+sample-of-profile-2 = refl
+
+-- "to 600,000" in profile 1, "to 650,000" in profile 2: each by its own table, from level 3
+samples-by-each-table :
+    map
+    (λ (p : ℕ). map (λ (load : ℕ). sampled (control p 3 600000 0 0 0) load .tuning .level)
+    (600000 ∷ 600001 ∷ 650000 ∷ 650001 ∷ []))
+    (1 ∷ 2 ∷ [])
+    ≡ (3 ∷ 4 ∷ 4 ∷ 4 ∷ []) ∷ (3 ∷ 3 ∷ 3 ∷ 4 ∷ []) ∷ []
+unfolding of-samples
+samples-by-each-table = refl
+
+-- "Level 0, full load, profile 1: four samples to reach level 4", and as many to come back
+levels-up-and-down :
+    map (λ (k : Control). k .tuning .level)
+    (course (freshControl 1) (1000000 ∷ 1000000 ∷ 1000000 ∷ 1000000 ∷ 1000000 ∷ 0 ∷ 0 ∷ 0 ∷ 0 ∷ 0 ∷ []))
+    ≡ 1 ∷ 2 ∷ 3 ∷ 4 ∷ 4 ∷ 3 ∷ 2 ∷ 1 ∷ 0 ∷ 0 ∷ []
+unfolding course
+levels-up-and-down = refl
+
+-- "Profiles 1 and 2 keep no sample and never change duty or smoothed load": whatever the numbers
+rest : Tuning → List ℕ
+rest t = t .duty ∷ t .smoothed ∷ t .kept ∷ t .pairing ∷ []
+
+profiles-1-and-2-change-no-more :
+    (t : Tuning) (load : ℕ)
+    → map (λ (p : ℕ). rest (sampled (controlOf p t) load .tuning)) (1 ∷ 2 ∷ []) ≡ rest t ∷ rest t ∷ []
+unfolding of-samples rest
+profiles-1-and-2-change-no-more t load = refl
+
+-- "Profile 3: the 1st, 3rd, 5th sample is kept": whatever the numbers, and nothing else changes
+sample-kept-in-profile-3 :
+    (level duty smoothed load : ℕ) → sampled (control 3 level duty smoothed 0 0) load ≡ control 3 level duty smoothed load 1
+unfolding of-samples
+sample-kept-in-profile-3 level duty smoothed load = refl
+
+-- "Each even one, with the kept one, updates and clears the kept"
+samples-of-profile-3 :
+    course (freshControl 3) (400000 ∷ 800000 ∷ 100000 ∷ 300001 ∷ 500000 ∷ [])
+    ≡ control 3 0 600000 0 400000 1
+    ∷ control 3 0 1046400 300000 0 0
+    ∷ control 3 0 1046400 300000 100000 1
+    ∷ control 3 0 1529657 250000 0 0
+    ∷ control 3 0 1529657 250000 500000 1
+    ∷ []
+unfolding course
+samples-of-profile-3 = refl
+
+-- an unequal pair, over a smoothed load; "profile 3 never changes level"; a kept sample may be of load 0
+pairs-of-profile-3 :
+    sampled (control 3 2 10000000 100000 400000 1) 800000
+    ∷ sampled (control 3 4 10000000 900000 1000000 1) 700003
+    ∷ sampled (control 3 0 600000 0 0 1) 400000
+    ∷ []
+    ≡ control 3 2 10236000 350000 0 0 ∷ control 3 4 9606000 875000 0 0 ∷ control 3 0 1090400 100000 0 0 ∷ []
+unfolding of-samples
+pairs-of-profile-3 = refl
+
+profile-3-never-changes-level :
+    (level duty smoothed kept load : ℕ)
+    → map (λ (pairing : ℕ). sampled (control 3 level duty smoothed kept pairing) load .tuning .level) (0 ∷ 1 ∷ [])
+    ≡ level ∷ level ∷ []
+unfolding of-samples
+profile-3-never-changes-level level duty smoothed kept load = refl
+
+-- The wait, and how long it keeps the gate closed.
+unfoldable of-waits : Type 0
+unfolding within waitBy adaptiveWait startOf mostOntime waitOf quiet claimsCeiling
+of-waits = Unit {0}
+
+-- "The wait in profiles 1 and 2 is the current level's": whatever the duty and the on-time
+
+waits-of-profile-1 :
+    (duty ontime : ℕ)
+    → map (λ (level : ℕ). waitOf (control 1 level duty 0 0 0) ontime) (0 ∷ 1 ∷ 2 ∷ 3 ∷ 4 ∷ [])
+    ≡ 100000 ∷ 200000 ∷ 400000 ∷ 500000 ∷ 1000000 ∷ []
+unfolding of-waits
+waits-of-profile-1 duty ontime = refl
+
+waits-of-profile-2 :
+    (duty ontime : ℕ)
+    → map (λ (level : ℕ). waitOf (control 2 level duty 0 0 0) ontime) (0 ∷ 1 ∷ 2 ∷ 3 ∷ 4 ∷ [])
+    ≡ 50000 ∷ 100000 ∷ 200000 ∷ 250000 ∷ 1000000 ∷ []
+unfolding of-waits
+waits-of-profile-2 duty ontime = refl
+
+-- "In profile 3 it is ceil(on-time of the last admitted packet × 1,000,000,000 / duty), held within 25,000 to 1,000,000":
+-- whatever the level
+
+waits-at-the-greatest-duty :
+    (level : ℕ)
+    → map (waitOf (control 3 level 30000000 0 0 0)) (1 ∷ 749 ∷ 750 ∷ 751 ∷ 4000 ∷ [])
+    ≡ 25000 ∷ 25000 ∷ 25000 ∷ 25034 ∷ 133334 ∷ []
+unfolding of-waits
+waits-at-the-greatest-duty level = refl
+
+waits-between :
+    (level : ℕ)
+    → map (waitOf (control 3 level 7000000 0 0 0)) (1 ∷ 175 ∷ 176 ∷ 1000 ∷ 4000 ∷ [])
+    ≡ 25000 ∷ 25000 ∷ 25143 ∷ 142858 ∷ 571429 ∷ []
+unfolding of-waits
+waits-between level = refl
+
+waits-at-the-least-duty :
+    (level : ℕ)
+    → map (waitOf (control 3 level 600000 0 0 0)) (15 ∷ 16 ∷ 599 ∷ 600 ∷ 601 ∷ 4000 ∷ [])
+    ≡ 25000 ∷ 26667 ∷ 998334 ∷ 1000000 ∷ 1000000 ∷ 1000000 ∷ []
+unfolding of-waits
+waits-at-the-least-duty level = refl
+
+-- "In profiles 1 and 2 the wait now runs from admission plus that packet's on-time. Profile 3 stays as it is" (W-202)
+
+closed-in-profiles-1-and-2 :
+    closedAfter (control 1 0 600000 0 0 0) 1000
+    ∷ closedAfter (control 1 4 600000 0 0 0) 1
+    ∷ closedAfter (control 2 0 600000 0 0 0) 400
+    ∷ closedAfter (control 2 3 600000 0 0 0) 500
+    ∷ []
+    ≡ 101000 ∷ 1000001 ∷ 50400 ∷ 250500 ∷ []
+unfolding of-waits
+closed-in-profiles-1-and-2 = refl
+
+closed-in-profile-3 :
+    map (closedAfter (control 3 0 30000000 0 0 0)) (1 ∷ 751 ∷ 4000 ∷ [])
+    ≡ 25000 ∷ 25034 ∷ 133334 ∷ []
+unfolding of-waits
+closed-in-profile-3 = refl
+
+-- "its floor reads 1,001,000 µs for profile 1, 1,000,500 for profile 2 and 1,000,000 for profile 3" (W-202)
+quiet-times : map quiet (1 ∷ 2 ∷ 3 ∷ []) ≡ 1001000 ∷ 1000500 ∷ 1000000 ∷ []
+unfolding of-waits
+quiet-times = refl
+
+floors-by-profile : (quiet 1 ≡ 1001000) × (quiet 2 ≡ 1000500) × (quiet 3 ≡ 1000000)
+floors-by-profile = floors
+
+-- "100 x air time admitted ≤ 3 W + 400,000"; "gaps of at least 25,000 µs" (W-207)
+spare-and-gap : spare ∷ leastGap ∷ [] ≡ 400000 ∷ 25000 ∷ []
+spare-and-gap = refl
+
+-- "Demand 3's ceiling is what holds": in every profile
+ceiling-claimed : map claimsCeiling (0 ∷ 1 ∷ 2 ∷ 3 ∷ 4 ∷ []) ≡ false ∷ true ∷ true ∷ true ∷ false ∷ []
+unfolding of-waits
+ceiling-claimed = refl
+
+-- what every profile owes, and what one owes that claims the ceiling, in numbers
+
+all-owe : (k : Control) (ontime : ℕ) → soundControl k ≡ true → ontimeAllowed (k .profile) ontime ≡ true
+    → (closedAfter k ontime ≤ quiet (k .profile)) × (25000 ≤ closedAfter k ontime)
+all-owe k ontime s o = let h = all-keep k ontime (s, o) in (h .longest, h .apart)
+
+claimants-owe : (k : Control) (ontime : ℕ) → soundControl k ≡ true → ontimeAllowed (k .profile) ontime ≡ true
+    → claimsCeiling (k .profile) ≡ true → (100 * ontime ≤ 3 * closedAfter k ontime) × (100 * ontime ≤ 400000)
+claimants-owe k ontime s o c = let h = claimants-keep k ontime (s, o) c in (h .spaced, h .alone)

@@ -1,0 +1,444 @@
+-- Demand 3, the delivery and the refusals' laws in the papers' own numbers, from their proofs: a statement of specs/ that says
+-- less fails here. Then what they are stated with, worked by hand: each side computes to the other.
+use Prim.Native.Nat.{ℕ, suc, _+_, _-_, _*_, _≤_, _<_}
+use mathlib.Core.Path.{_≡_, refl, ap, _∙_, subst}
+use mathlib.Core.Logic.{_⊎_, inl, inr}
+use mathlib.Core.Bool.{true, false}
+use mathlib.Core.List.{List, [], _∷_, _++_, map}
+use native.Mathlib.Omega.{arith}
+use lib.Dec.{eqb}
+use lib.ListN.{length}
+use borrow.Author.Tests.{not-false, eqb-true}
+use Rattle.rules.specs.Profiles.{isProfile}
+use Rattle.rules.specs.Refusals.{firstOf, FirstHolds}
+use Rattle.rules.proofs.Cases.{on-cond, clash}
+use Rattle.rules.proofs.Refusals.{of-none}
+use Rattle.rules.proofs.Tests.{tested}
+use Rattle.control.specs.Owed.{quiet}
+use Rattle.control.proofs.Owed.{floors, all-claim}
+use Rattle.model.specs.declared.Packet.{Packet}
+use Rattle.model.specs.declared.Counts.{Counts}
+use Rattle.model.specs.declared.Offer.{Offer}
+use Rattle.model.specs.declared.Answer.{Answer}
+use Rattle.model.specs.declared.Answer.the-variants.{Ready, Taken, Sent, Idle, Closed, Refused}
+use Rattle.model.specs.Packets.{Holding}
+use Rattle.model.specs.Queues.{inQueues}
+use Rattle.model.specs.Fours.{Four, four}
+use Rattle.model.specs.Calls.{Call, words, count, offer, poll, Making, isSent, isRefused}
+use Rattle.model.specs.State.{Status, View, sound}
+use Rattle.model.specs.Effects.{Result}
+use Rattle.model.specs.Gate.{makeChecks, makeIn, make, checks, call}
+use Rattle.model.specs.Journal.{Entry, Admission, Way, expiry, admission, Departure, Journal}
+use Rattle.model.specs.Journal.{opened, turned, arriving, entryOf, lowest, top, atPoll, journalOf, airTime}
+use Rattle.model.specs.Claims.{viewAfter, events, All, InTurn, Newest, Claims}
+use Rattle.model.specs.Delivery.{Among, longestWait, lastPoll, PolledEvery}
+use Rattle.model.proofs.Refusals.{refusals-change-nothing, refusals-are-exact}
+use Rattle.model.proofs.KeepsSound.{calls-keep-sound}
+use Rattle.model.proofs.Runs.{runs-are-their-parts}
+use Rattle.model.proofs.Demand3.{demand3}
+use Rattle.model.proofs.DeliveryLines.{all-of}
+use Rattle.model.proofs.Delivery.{delivery}
+use Rattle.model.proofs.Computing.{of-runs}
+use Rattle.model.proofs.Worked.{packet, queues, offering}
+
+-- "a refused call (make apart) changes nothing"; "exactly if"; however packets wait
+refused-unchanged : {h : Holding} (v : Status h) (c : Call) → isRefused (call v c .answer) ≡ true → call v c .view ≡ v
+refused-unchanged = refusals-change-nothing
+
+refused-exactly : {h : Holding} (v : Status h) (c : Call) (n : ℕ)
+    → (call v c .answer ≡ Refused n → FirstHolds n (checks v c)) × (FirstHolds n (checks v c) → call v c .answer ≡ Refused n)
+refused-exactly = refusals-are-exact
+
+stays-sound : (v : View) (c : Call) → sound v ≡ true → sound (call v c .view) ≡ true
+stays-sound = calls-keep-sound
+
+-- "the top packet of the lowest-numbered non-empty column": the first of the columns one behind the other
+abbrev joined : Four Entry → List Entry
+joined q = q .c0 ++ q .c1 ++ q .c2 ++ q .c3
+
+top-first : (l : Entry) (a b c d : List Entry) → top (four a b c d) ≡ l ∷ [] → (ls : List Entry) × (a ++ b ++ c ++ d ≡ l ∷ ls)
+unfolding lowest
+top-first l (x ∷ a) b c d e = (a ++ b ++ c ++ d, cc)
+top-first l [] (x ∷ b) c d e = (b ++ c ++ d, cc)
+top-first l [] [] (x ∷ c) d e = (c ++ d, cc)
+top-first l [] [] [] (x ∷ d) e = (d, cc)
+top-first l [] [] [] [] e = clash (cc)
+
+no-top : (a b c d : List Entry) → top (four a b c d) ≡ [] → a ++ b ++ c ++ d ≡ []
+unfolding lowest
+no-top (x ∷ a) b c d e = clash (cc)
+no-top [] (x ∷ b) c d e = clash (cc)
+no-top [] [] (x ∷ c) d e = clash (cc)
+no-top [] [] [] (x ∷ d) e = clash (cc)
+no-top [] [] [] [] e = refl
+
+ready-profile : (m : Making) → make m .answer ≡ Ready → isProfile (m .profile) ≡ true
+unfolding makeIn
+ready-profile m =
+    on-cond (λ (o : Result inQueues). o .answer ≡ Ready → isProfile (m .profile) ≡ true) (eqb (firstOf (makeChecks m)) 0)
+    (λ e r. not-false _ (of-none (makeChecks m) (omega tested) (eqb-true _ _ e) .0))
+    (λ e r. clash (cc))
+
+-- "a make that isn't refused, then any list of samples (by words or count), offers and polls"
+module _ (m : Making) (calls : List Call) (ready : make m .answer ≡ Ready) where
+  abbrev v : View
+  v = viewAfter (make m .view) calls
+
+  abbrev j : Journal
+  j = journalOf (opened (m .stamp)) (events (make m .view) calls)
+
+  claims : Claims (m .profile) v j
+  claims = demand3 m calls ready
+
+  never-unsound : sound v ≡ true
+  never-unsound = claims .sound-throughout
+
+  -- "Its time, queues, admissions and expiries are those of a book"
+  same-time : v .clock .time ≡ j .time
+  same-time = claims .time
+
+  same-queues :
+      (v .waiting .c0 ≡ map (λ (l : Entry). l .packet) (j .columns .c0))
+      × (v .waiting .c1 ≡ map (λ (l : Entry). l .packet) (j .columns .c1))
+      × (v .waiting .c2 ≡ map (λ (l : Entry). l .packet) (j .columns .c2))
+      × (v .waiting .c3 ≡ map (λ (l : Entry). l .packet) (j .columns .c3))
+  same-queues =
+      let e = claims .queues in (
+        ap (λ (q : Four Packet). q .c0) e,
+        ap (λ (q : Four Packet). q .c1) e,
+        ap (λ (q : Four Packet). q .c2) e,
+        ap (λ (q : Four Packet). q .c3) e,
+      )
+
+  none-admitted : j .admissions ≡ [] → v .last .admitted ≡ 1 → ⊥
+  none-admitted e f = let h = subst (Newest (v .last)) e (claims .admissions) in clash (cc)
+
+  last-admitted : (a : Admission) (l : List Admission) → j .admissions ≡ a ∷ l
+      → (v .last .admitted ≡ 1) × (v .last .at ≡ a .at) × (v .last .ontime ≡ a .ontime)
+  last-admitted a l e = let h = subst (Newest (v .last)) e (claims .admissions) in (eqb-true _ _ (h .0), h .1, h .2)
+
+  -- "each count equals the number of such events in the run"; "accepted equals sent plus expired plus the packets waiting"
+  -- (W-201)
+  same-counts :
+      (v .counts .accepted ≡ j .offers) × (v .counts .sent ≡ length (j .admissions)) × (v .counts .expired ≡ j .expiries)
+  same-counts =
+      let e = claims .counts in (
+        ap (λ (c : Counts). c .accepted) e,
+        ap (λ (c : Counts). c .sent) e,
+        ap (λ (c : Counts). c .expired) e,
+      )
+
+  adds-up :
+      v .counts .accepted
+      ≡ v .counts .sent + v .counts .expired
+      + (length (v .waiting .c0) + length (v .waiting .c1) + length (v .waiting .c2) + length (v .waiting .c3))
+  adds-up = claims .adds-up
+
+  -- "in any window of W µs, 100 x air time admitted ≤ 3 W + 400,000", in each profile
+  ceiling : (from w : ℕ) → 100 * airTime from w (j .admissions) ≤ 3 * w + 400000
+  ceiling = claims .ceiling (all-claim (m .profile) (ready-profile m ready))
+
+  -- "an accepted poll that finds an unexpired packet" so long after every earlier admission answers SENT
+  abbrev Floor : (µs : ℕ) → Type 0
+  Floor µs =
+      (stamp : ℕ)
+      → isRefused (call v (poll stamp) .answer) ≡ false
+      → (joined (atPoll j stamp .columns) ≡ [] → ⊥)
+      → All (λ (a : Admission). a .at + µs ≤ turned j stamp .time) (j .admissions)
+      → (p : Packet) × (call v (poll stamp) .answer ≡ Sent p)
+
+  floor-by : (µs : ℕ) → quiet (m .profile) ≡ µs → Floor µs
+  floor-by µs e stamp accepted some late =
+      claims .floor stamp accepted (λ n. some (no-top _ _ _ _ n)) (rw e late)
+
+  -- "its floor reads 1,001,000 µs for profile 1, 1,000,500 for profile 2 and 1,000,000 for profile 3" (W-202)
+  floor-of-1 : m .profile ≡ 1 → Floor 1001000
+  floor-of-1 e = floor-by 1001000 (ap quiet e ∙ floors .0)
+
+  floor-of-2 : m .profile ≡ 2 → Floor 1000500
+  floor-of-2 e = floor-by 1000500 (ap quiet e ∙ floors .1)
+
+  floor-of-3 : m .profile ≡ 3 → Floor 1000000
+  floor-of-3 e = floor-by 1000000 (ap quiet e ∙ floors .2)
+
+  -- "SENT never comes with all columns empty, and carries the packet struck"
+  carried : (stamp : ℕ) (p : Packet) → call v (poll stamp) .answer ≡ Sent p
+      → (l : Entry) × (ls : List Entry) × (joined (atPoll j stamp .columns) ≡ l ∷ ls) × (l .packet ≡ p)
+  carried stamp p e =
+      let h = claims .sent stamp p e in
+      let t = top-first (h .0) _ _ _ _ (h .1) in
+      (h .0, t .0, t .1, h .2)
+
+  -- "A packet of priority 0 still there when the run ends has seen at most k admissions."
+  seen-at-most-k : (l : Entry) → Among l (j .columns .c0) → length (j .admissions) - l .earlier ≤ l .above
+  seen-at-most-k l there = omega (arith, all-of _ l (j .columns .c0) (claims .still-there) there)
+
+  -- "leaves by expiry, .. or no later than with the (k+1)th admission after it came" (W-205's wording of it)
+  gone-in-turn : (l : Entry) (n at : ℕ) → l .packet .priority ≡ 0
+      → Among (record { entry = l; way = admission n; at = at }) (j .departures) → n ≤ l .earlier + l .above + 1
+  gone-in-turn l n at zero left =
+      omega (arith, all-of _ (record { entry = l; way = admission n; at = at }) (j .departures) (claims .leaving) left zero)
+
+-- a run is as long as one likes: its calls in two parts are one run
+in-parts : (v : View) (j : Journal) (cs ds : List Call)
+    → (viewAfter v (cs ++ ds) ≡ viewAfter (viewAfter v cs) ds)
+    × (journalOf j (events v (cs ++ ds)) ≡ journalOf (journalOf j (events v cs)) (events (viewAfter v cs) ds))
+in-parts = runs-are-their-parts
+
+-- the label's example, an offer of priority 0 in a run: l is its entry, with k above it, j the journal right behind the offer
+module _ (m : Making) (p at : ℕ) (o : Offer) (before behind : List Call) where
+  abbrev runBefore : Journal
+  runBefore = journalOf (opened (m .stamp)) (events (make m .view) before)
+
+  abbrev own : Entry
+  own = entryOf (atPoll runBefore at) (arriving (turned runBefore at) o)
+
+  abbrev behindOffer : Journal
+  behindOffer = journalOf (opened (m .stamp)) (events (make m .view) (before ++ offer at o ∷ []))
+
+  abbrev eventsBehind : List (Call × Answer)
+  eventsBehind = events (viewAfter (make m .view) (before ++ offer at o ∷ [])) behind
+
+  abbrev end : Journal
+  end = journalOf behindOffer eventsBehind
+
+  abbrev SentIn : (µs : ℕ) → Type 0
+  SentIn µs =
+      (n : ℕ)
+      × (t : ℕ)
+      × Among (record { entry = own; way = admission n; at = t }) (end .departures)
+      × (t ≤ turned runBefore at .time + µs)
+
+  -- sent within (k + 1) × (quiet + p), not expired
+  sent-in-time : (µs : ℕ) → quiet (m .profile) ≡ µs → make m .answer ≡ Ready → o .priority ≡ 0
+      → call (viewAfter (make m .view) before) (offer at o) .answer ≡ Taken
+      → suc (own .above) * (µs + p) < o .lifetime
+      → PolledEvery p own (turned runBefore at .time) behindOffer eventsBehind
+      → ((t : ℕ) → Among (record { entry = own; way = expiry; at = t }) (end .departures) → ⊥)
+      × (Among own (end .columns .c0) ⊎ SentIn (suc (own .above) * (µs + p)))
+      × (turned runBefore at .time + suc (own .above) * (µs + p) < end .time
+      → (Among own (end .columns .c0) → ⊥) × SentIn (suc (own .above) * (µs + p)))
+  sent-in-time µs e ready zero taken long polled =
+      let d = delivery m p at o before behind ready zero taken (rw e long) polled in
+      let same = ap (λ (q : ℕ). suc (own .above) * (q + p)) e in (
+        d .not-expired,
+        subst (λ (x : ℕ). Among own (end .columns .c0) ⊎ SentIn x) same (d .so-far),
+        subst
+            (λ (x : ℕ). turned runBefore at .time + x < end .time → (Among own (end .columns .c0) → ⊥) × SentIn x)
+            same (d .sent),
+      )
+
+-- What these are stated with, worked by hand. "A refused call changes nothing."; "SENT is an admission": which answers these are
+abbrev answers : List Answer
+answers = Ready ∷ Taken ∷ Sent (packet 1 2 3 4 5) ∷ Idle ∷ Closed 6 ∷ Refused 7 ∷ []
+
+refusals : map isRefused answers ≡ false ∷ false ∷ false ∷ false ∷ false ∷ true ∷ []
+refusals = refl
+
+admissions : map isSent answers ≡ false ∷ false ∷ true ∷ false ∷ false ∷ false ∷ []
+admissions = refl
+
+-- The journal, opened at stamp 5, is "fed each call's arguments and answer".
+abbrev page : (time stamp offers expiries : ℕ) → Four Entry → List Admission → List Departure → Journal
+page time stamp offers expiries columns admissions departures =
+    record {
+      time = time;
+      stamp = stamp;
+      offers = offers;
+      expiries = expiries;
+      columns = columns;
+      admissions = admissions;
+      departures = departures;
+    }
+
+abbrev entry : Packet → (above earlier : ℕ) → Entry
+entry p above earlier = record { packet = p; above = above; earlier = earlier }
+
+abbrev left : Entry → Way → (at : ℕ) → Departure
+left l way at = record { entry = l; way = way; at = at }
+
+abbrev admittedAt : (at ontime : ℕ) → Admission
+admittedAt at ontime = record { at = at; ontime = ontime }
+
+book : List (Call × Answer) → Journal
+unfolding of-runs
+book es = journalOf (opened 5) es
+
+-- "At first: time 0, make's stamp, columns empty."
+first-page : book [] ≡ page 0 5 0 0 (queues [] [] [] []) [] []
+unfolding book
+first-page = refl
+
+-- "An offer then writes its packet, with the book's time as its arrival, at the foot of its priority's column; those above it are
+-- the k before it."
+abbrev first : Entry
+first = entry (packet 1 0 11 20 1) 0 0
+
+abbrev second : Entry
+second = entry (packet 2 0 12 10 2) 1 0
+
+abbrev third : Entry
+third = entry (packet 3 1 13 10 2) 0 0
+
+abbrev fourth : Entry
+fourth = entry (packet 4 2 14 10 3) 0 0
+
+abbrev fifth : Entry
+fifth = entry (packet 5 3 15 10 3) 0 0
+
+abbrev fiveOffers : List (Call × Answer)
+fiveOffers =
+    (offering 6 1 0 11 20, Taken)
+    ∷ (offering 7 2 0 12 10, Taken)
+    ∷ (offering 7 3 1 13 10, Taken)
+    ∷ (offering 8 4 2 14 10, Taken)
+    ∷ (offering 8 5 3 15 10, Taken)
+    ∷ []
+
+abbrev fiveEntries : Four Entry
+fiveEntries = queues (first ∷ second ∷ []) (third ∷ []) (fourth ∷ []) (fifth ∷ [])
+
+offers-written : book fiveOffers ≡ page 3 8 5 0 fiveEntries [] []
+unfolding book
+offers-written = refl
+
+-- "A refused call changes nothing."
+refused-unfed :
+    book
+    (fiveOffers
+    ++ (words 9 [], Refused 4)
+    ∷ (count 9 1001, Refused 4)
+    ∷ (offering 30 6 0 1 1, Refused 8)
+    ∷ (poll 4, Refused 2)
+    ∷ [])
+    ≡ page 3 8 5 0 fiveEntries [] []
+unfolding book
+refused-unfed = refl
+
+-- "the step from the book's stamp to the call's is added to the time, and the call's stamp kept. A sample does no more.": at 98
+-- all are past their lifetimes
+sample-turns :
+    map (λ (e : Call × Answer). book (fiveOffers ++ e ∷ [])) ((words 103 [], Taken) ∷ (count 103 7, Taken) ∷ [])
+    ≡ map (λ (n : ℕ). page n 103 5 0 fiveEntries [] []) (98 ∷ 98 ∷ [])
+unfolding book
+sample-turns = refl
+
+steps :
+    map (λ (n : ℕ). turned (page 9 4294967290 0 0 (queues [] [] [] []) [] []) n .time) (4294967291 ∷ 4 ∷ 4294967289 ∷ [])
+    ≡ 10 ∷ 19 ∷ 4294967304 ∷ []
+steps = refl
+
+-- "An offer or poll then strikes each packet whose time since its offer is at least its lifetime; it leaves by expiry."
+not-yet-at-11 : book (fiveOffers ++ (poll 16, Closed 1) ∷ []) ≡ page 11 16 5 0 fiveEntries [] []
+unfolding book
+not-yet-at-11 = refl
+
+struck-at-12 :
+    book (fiveOffers ++ (poll 17, Idle) ∷ [])
+    ≡ page 12 17 5 2 (queues (first ∷ []) [] (fourth ∷ []) (fifth ∷ [])) []
+    (left second expiry 12 ∷ left third expiry 12 ∷ [])
+unfolding book
+struck-at-12 = refl
+
+struck-by-an-offer :
+    book (fiveOffers ++ (offering 18 6 0 16 9, Taken) ∷ [])
+    ≡ page 13 18 6 4 (queues (first ∷ entry (packet 6 0 16 9 13) 1 0 ∷ []) [] [] []) []
+    (left second expiry 13 ∷ left third expiry 13 ∷ left fourth expiry 13 ∷ left fifth expiry 13 ∷ [])
+unfolding book
+struck-by-an-offer = refl
+
+-- "SENT is an admission at the book's time: it strikes the top packet of the lowest-numbered non-empty column, and air time is
+-- that packet's on-time.", whatever packet the answer carries
+abbrev sent : (stamp : ℕ) → Call × Answer
+sent stamp = (poll stamp, Sent (packet 0 0 0 0 0))
+
+sent-all :
+    book (fiveOffers ++ sent 9 ∷ sent 10 ∷ sent 11 ∷ sent 12 ∷ sent 13 ∷ [])
+    ≡ page 8 13 5 0 (queues [] [] [] [])
+    (admittedAt 8 15 ∷ admittedAt 7 14 ∷ admittedAt 6 13 ∷ admittedAt 5 12 ∷ admittedAt 4 11 ∷ [])
+    (left fifth (admission 5) 8
+    ∷ left fourth (admission 4) 7
+    ∷ left third (admission 3) 6
+    ∷ left second (admission 2) 5
+    ∷ left first (admission 1) 4
+    ∷ [])
+unfolding book
+sent-all = refl
+
+-- the entry of an offer behind an admission
+sent-and-offered :
+    book (fiveOffers ++ sent 9 ∷ (offering 10 6 0 16 9, Taken) ∷ [])
+    ≡ page 5 10 6 0 (queues (second ∷ entry (packet 6 0 16 9 5) 1 1 ∷ []) (third ∷ []) (fourth ∷ []) (fifth ∷ []))
+    (admittedAt 4 11 ∷ []) (left first (admission 1) 4 ∷ [])
+unfolding book
+sent-and-offered = refl
+
+-- the top packet is that of the columns once the expired are struck
+struck-then-sent :
+    book (fiveOffers ++ (offering 20 6 2 16 99, Taken) ∷ sent 26 ∷ [])
+    ≡ page 21 26 6 5 (queues [] [] [] []) (admittedAt 21 16 ∷ [])
+    (left (entry (packet 6 2 16 99 15) 0 0) (admission 1) 21
+    ∷ left first expiry 21
+    ∷ left second expiry 15
+    ∷ left third expiry 15
+    ∷ left fourth expiry 15
+    ∷ left fifth expiry 15
+    ∷ [])
+unfolding book
+struck-then-sent = refl
+
+-- "in any window": from a moment to w µs later, both ends counted (R14 of docs/DECISIONS.md)
+window :
+    map (λ (w : ℕ). airTime 5 w (admittedAt 15 4000 ∷ admittedAt 5 3000 ∷ admittedAt 4 1000 ∷ [])) (0 ∷ 9 ∷ 10 ∷ [])
+    ≡ 3000 ∷ 3000 ∷ 7000 ∷ []
+unfolding of-runs
+window = refl
+
+-- "no later than with the (k+1)th admission after it came": 2 came before it and 3 stood above it
+abbrev sixth : Entry
+sixth = entry (packet 1 0 11 10 1) 3 2
+
+in-turn : InTurn sixth (admission 6)
+in-turn = omega arith
+
+out-of-turn : InTurn sixth (admission 7) → ⊥
+out-of-turn h = omega arith
+
+-- all of a list, and one of it
+both-of-two : {A : Type 0} (P : A → Type 0) (a b : A) → All P (a ∷ b ∷ []) → P a × P b
+both-of-two P a b h = (h .0, h .1 .0)
+
+one-of-two : {A : Type 0} (a b : A) → Among a (a ∷ b ∷ []) × Among b (a ∷ b ∷ [])
+one-of-two a b = (inl refl, inr (inl refl))
+
+-- (k + 1) × (quiet + p), with two above it
+longest-of-three : longestWait 2 500 (entry (packet 1 0 11 10 1) 2 7) ≡ 3003000
+unfolding of-runs
+longest-of-three = refl
+
+-- "accepted polls come at most p µs apart for as long as it waits": SENT, IDLE and CLOSED are accepted polls; a refused call is
+-- no call of the book's, other calls come between, and once it is gone polls may stay away
+last-polls : map (λ (a : Answer). lastPoll 3 a (page 9 0 0 0 (queues [] [] [] []) [] [])) answers ≡ 3 ∷ 3 ∷ 9 ∷ 9 ∷ 9 ∷ 3 ∷ []
+last-polls = refl
+
+abbrev alone : Entry
+alone = entry (packet 1 0 11 100 1) 0 0
+
+polled-every-10 :
+    PolledEvery 10 alone 1 (page 1 6 1 0 (queues (alone ∷ []) [] [] []) [] [])
+    ((poll 16, Closed 9)
+    ∷ (poll 2, Refused 2)
+    ∷ (count 20 0, Taken)
+    ∷ (offering 26 2 1 1 1, Taken)
+    ∷ (poll 26, Closed 1)
+    ∷ sent 36
+    ∷ (poll 999, Idle)
+    ∷ [])
+unfolding of-runs
+polled-every-10 = (
+  λ w. omega arith,
+  (
+    λ w. omega arith,
+    (λ w. omega arith, (λ w. omega arith, (λ w. omega arith, (λ w. omega arith, (λ w. absurd w, tt))))),
+  ),
+)

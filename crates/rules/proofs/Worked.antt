@@ -1,0 +1,378 @@
+-- Worked examples of what documents 01 and 02 say of numbers. Each side computes to the other, so a definition that reads a
+-- sentence otherwise fails here.
+use Prim.Native.Nat.{ℕ, _+_, _-_, _^_}
+use mathlib.Core.Path.{_≡_, refl}
+use mathlib.Core.Bool.{true, false}
+use mathlib.Core.List.{List, [], _∷_, _++_, map}
+use mathlib.Core.Logic.{inl, inr}
+use lib.IntN.{ℤ, pos, negℤ}
+use Rattle.rules.specs.declared.Sample.the-variants.{Busy, Bad}
+use Rattle.rules.specs.Tests.{allOf}
+use Rattle.rules.specs.Profiles.{profile3, fullLoad, topLevel, within, isProfile, isReactive, byProfile}
+use Rattle.rules.specs.Profiles.{reactiveOf, limitsOf, mostOntime, ontimeAllowed, dutyAllowed}
+use Rattle.rules.specs.Profiles.{lifetimeAllowed, lastPriority, room, mostOffers}
+use Rattle.rules.specs.Clock.{stamps, stepOf, goesBack, endOfTime, passesEnd}
+use Rattle.rules.specs.Refusals.{check, firstOf, FirstHolds, NoneHolds}
+use Rattle.rules.specs.Samples.{probes, probe, busyOf, goodWords, sampleOf, sampleNumber, badCount, loadOf}
+use Rattle.rules.specs.Levels.{wantedBy, towards, waitBy}
+use Rattle.rules.specs.Duty.{floorDiv, held, heldOffset, heldWhole, smoothedOf, offsetOf, dutyOf}
+use Rattle.rules.specs.Wait.{ceilDiv, wholeDuty, adaptiveWait, startOf}
+use Rattle.rules.specs.Readings.{readings}
+use Rattle.rules.proofs.Readings.{readings-hold}
+
+-- "profile 1 to 3"; "reactive" are 1 and 2
+
+profiles : map isProfile (0 ∷ 1 ∷ 2 ∷ 3 ∷ 4 ∷ []) ≡ false ∷ true ∷ true ∷ true ∷ false ∷ []
+unfolding within
+profiles = refl
+
+reactive-profiles : map isReactive (0 ∷ 1 ∷ 2 ∷ 3 ∷ 4 ∷ []) ≡ false ∷ true ∷ true ∷ false ∷ false ∷ []
+unfolding within
+reactive-profiles = refl
+
+-- a choice by a profile's number; a number that is no profile's is refused first, and goes with 3 here
+choice-by-profile : map (λ (p : ℕ). byProfile {A = ℕ} p 10 20 30) (1 ∷ 2 ∷ 3 ∷ 0 ∷ 4 ∷ []) ≡ 10 ∷ 20 ∷ 30 ∷ 30 ∷ 30 ∷ []
+choice-by-profile = refl
+
+-- "On-time allowed (µs)": "1 to 1,000", "1 to 500", "1 to 4,000"
+
+longest-on-times : map mostOntime (1 ∷ 2 ∷ 3 ∷ 0 ∷ []) ≡ 1000 ∷ 500 ∷ 4000 ∷ 4000 ∷ []
+unfolding mostOntime
+longest-on-times = refl
+
+on-times-of-profile-1 : map (ontimeAllowed 1) (0 ∷ 1 ∷ 1000 ∷ 1001 ∷ []) ≡ false ∷ true ∷ true ∷ false ∷ []
+unfolding ontimeAllowed mostOntime within
+on-times-of-profile-1 = refl
+
+on-times-of-profile-2 : map (ontimeAllowed 2) (0 ∷ 1 ∷ 500 ∷ 501 ∷ []) ≡ false ∷ true ∷ true ∷ false ∷ []
+unfolding ontimeAllowed mostOntime within
+on-times-of-profile-2 = refl
+
+on-times-of-profile-3 : map (ontimeAllowed 3) (0 ∷ 1 ∷ 4000 ∷ 4001 ∷ []) ≡ false ∷ true ∷ true ∷ false ∷ []
+unfolding ontimeAllowed mostOntime within
+on-times-of-profile-3 = refl
+
+on-times-of-no-profile : map (ontimeAllowed 0) (0 ∷ 1 ∷ 4000 ∷ 4001 ∷ []) ≡ false ∷ true ∷ true ∷ false ∷ []
+unfolding ontimeAllowed mostOntime within
+on-times-of-no-profile = refl
+
+-- the least and the longest wait of profiles 1, 2 and 3
+
+least-waits : map (λ (p : ℕ). limitsOf p .leastwait) (1 ∷ 2 ∷ 3 ∷ []) ≡ 100000 ∷ 50000 ∷ 25000 ∷ []
+least-waits = refl
+
+longest-waits : map (λ (p : ℕ). limitsOf p .mostwait) (1 ∷ 2 ∷ 3 ∷ []) ≡ 1000000 ∷ 1000000 ∷ 1000000 ∷ []
+longest-waits = refl
+
+-- "In profiles 1 and 2 the wait now runs from admission plus that packet's on-time. Profile 3 stays as it is" (W-202)
+start-of-the-wait :
+    map (λ (p : ℕ). startOf p 400) (1 ∷ 2 ∷ 3 ∷ []) ++ startOf 1 1000 ∷ startOf 2 1 ∷ startOf 3 4000 ∷ []
+    ≡ 400 ∷ 400 ∷ 0 ∷ 1000 ∷ 1 ∷ 0 ∷ []
+unfolding startOf
+start-of-the-wait = refl
+
+-- "loads at most 1,000,000", "level at most 4", "Duty is in parts per 1,000,000,000", "priority above 3", "queues of up to 5
+-- packets", "accepted above 10^15" (W-201), "10^15", "4,294,967,296", "1,000 probes"
+numbers-of-the-paper :
+    fullLoad ∷ topLevel ∷ wholeDuty ∷ lastPriority ∷ room ∷ mostOffers ∷ endOfTime ∷ stamps ∷ probes ∷ []
+    ≡ 1000000 ∷ 4 ∷ 1000000000 ∷ 3 ∷ 5 ∷ 1000000000000000 ∷ 1000000000000000 ∷ 4294967296 ∷ 1000 ∷ []
+numbers-of-the-paper = refl
+
+-- "duty 600,000 to 30,000,000"
+duties : map dutyAllowed (599999 ∷ 600000 ∷ 30000000 ∷ 30000001 ∷ []) ≡ false ∷ true ∷ true ∷ false ∷ []
+unfolding within
+duties = refl
+
+-- "lifetime 0 or above 60,000,000"
+lifetimes : map lifetimeAllowed (0 ∷ 1 ∷ 60000000 ∷ 60000001 ∷ []) ≡ false ∷ true ∷ true ∷ false ∷ []
+unfolding within
+lifetimes = refl
+
+-- both ends of a range are in it, and a range may be one number
+ranges : map (within 3 5) (2 ∷ 3 ∷ 4 ∷ 5 ∷ 6 ∷ []) ++ map (within 3 3) (2 ∷ 3 ∷ 4 ∷ [])
+    ≡ false ∷ true ∷ true ∷ true ∷ false ∷ false ∷ true ∷ false ∷ []
+unfolding within
+ranges = refl
+
+-- every rule of a list holds
+rules-of-a-list : map allOf ([] ∷ (true ∷ true ∷ []) ∷ (false ∷ true ∷ []) ∷ (true ∷ false ∷ []) ∷ [])
+    ≡ true ∷ true ∷ false ∷ false ∷ []
+rules-of-a-list = refl
+
+-- "the later stamp minus the earlier one, modulo 4,294,967,296"; "a step of 0 is good"
+
+steps : stepOf 704 100 ∷ stepOf 49904 49904 ∷ stepOf 4294967295 0 ∷ [] ≡ 604 ∷ 0 ∷ 4294967295 ∷ []
+unfolding stepOf
+steps = refl
+
+-- "Taking the step as negative when the stamp wraps"
+steps-where-the-stamp-wraps :
+    stepOf 704 4294967200 ∷ stepOf 0 4294967295 ∷ stepOf 49903 49904 ∷ [] ≡ 800 ∷ 1 ∷ 4294967295 ∷ []
+unfolding stepOf
+steps-where-the-stamp-wraps = refl
+
+-- "A step of 2,147,483,648 or more is the clock going back"
+half-a-turn : map goesBack (0 ∷ 2147483647 ∷ 2147483648 ∷ 4294967295 ∷ []) ≡ false ∷ false ∷ true ∷ true ∷ []
+unfolding goesBack
+half-a-turn = refl
+
+-- "running time would pass 10^15"
+end-of-time : map passesEnd (0 ∷ 1000000000000000 ∷ 1000000000000001 ∷ []) ≡ false ∷ false ∷ true ∷ []
+unfolding passesEnd
+end-of-time = refl
+
+-- "the first that holds is the answer"
+first-that-holds :
+    map firstOf
+    ([]
+    ∷ (check 9 false ∷ check 2 false ∷ [])
+    ∷ (check 9 true ∷ check 2 true ∷ [])
+    ∷ (check 9 false ∷ check 2 true ∷ check 3 true ∷ [])
+    ∷ (check 9 false ∷ check 2 false ∷ check 3 true ∷ [])
+    ∷ [])
+    ≡ 0 ∷ 0 ∷ 9 ∷ 2 ∷ 3 ∷ []
+unfolding firstOf
+first-that-holds = refl
+
+-- "exactly if": a number's row is the first that holds; and none does
+second-row-first : FirstHolds 2 (check 9 false ∷ check 2 true ∷ check 3 true ∷ [])
+second-row-first = inr (refl, inl (refl, refl))
+
+no-row : NoneHolds (check 9 false ∷ check 2 false ∷ [])
+no-row = (refl, (refl, tt))
+
+-- A sample by words: the first two, thirteen quiet ones, and the last.
+sampleFrom : (first second last : ℕ) → List ℕ
+sampleFrom first second last =
+    first ∷ second ∷ 0 ∷ 0 ∷ 0 ∷ 0 ∷ 0 ∷ 0 ∷ 0 ∷ 0 ∷ 0 ∷ 0 ∷ 0 ∷ 0 ∷ 0 ∷ last ∷ []
+
+-- "probe k is bit k mod 64 of word k / 64 (whole division)"
+probes-by-bits :
+    map (probe (sampleFrom (2 ^ 63 + 1) 1 (2 ^ 39))) (0 ∷ 1 ∷ 62 ∷ 63 ∷ 64 ∷ 65 ∷ 960 ∷ 998 ∷ 999 ∷ [])
+    ≡ 1 ∷ 0 ∷ 0 ∷ 1 ∷ 1 ∷ 0 ∷ 0 ∷ 0 ∷ 1 ∷ []
+unfolding sampleFrom probe
+probes-by-bits = refl
+
+-- "the number of busy probes is the count of one bits"
+busy-probes :
+    map (busyOf (sampleFrom (2 ^ 63 + 1) 1 (2 ^ 39))) (0 ∷ 1 ∷ 63 ∷ 64 ∷ 65 ∷ 999 ∷ 1000 ∷ [])
+    ≡ 0 ∷ 1 ∷ 1 ∷ 2 ∷ 3 ∷ 3 ∷ 4 ∷ []
+unfolding sampleFrom busyOf probe
+busy-probes = refl
+
+-- "not 16 words, or a bit above bit 39 set in the last"
+
+good-words : map goodWords (sampleFrom 0 0 0 ∷ sampleFrom (2 ^ 64 - 1) (2 ^ 40) (2 ^ 40 - 1) ∷ []) ≡ true ∷ true ∷ []
+unfolding sampleFrom goodWords
+good-words = refl
+
+stray-bits : map (λ (last : ℕ). goodWords (sampleFrom 0 0 last)) (2 ^ 39 ∷ 2 ^ 40 ∷ 2 ^ 63 ∷ []) ≡ true ∷ false ∷ false ∷ []
+unfolding sampleFrom goodWords
+stray-bits = refl
+
+fifteen : List ℕ
+fifteen = 1 ∷ 0 ∷ 0 ∷ 0 ∷ 0 ∷ 0 ∷ 0 ∷ 0 ∷ 0 ∷ 0 ∷ 0 ∷ 0 ∷ 0 ∷ 0 ∷ 0 ∷ []
+
+number-of-words :
+    map goodWords ([] ∷ fifteen ∷ (fifteen ++ 0 ∷ []) ∷ (fifteen ++ 0 ∷ 0 ∷ []) ∷ []) ≡ false ∷ false ∷ true ∷ false ∷ []
+unfolding fifteen goodWords
+number-of-words = refl
+
+allBusy : List ℕ
+allBusy =
+    let w = 2 ^ 64 - 1 in
+    w ∷ w ∷ w ∷ w ∷ w ∷ w ∷ w ∷ w ∷ w ∷ w ∷ w ∷ w ∷ w ∷ w ∷ w ∷ (2 ^ 40 - 1) ∷ []
+
+samples-by-words :
+    map sampleOf
+    (sampleFrom 0 0 0
+    ∷ sampleFrom (2 ^ 64 - 1) 5 (2 ^ 40 - 1)
+    ∷ allBusy
+    ∷ sampleFrom 1 0 (2 ^ 40)
+    ∷ fifteen
+    ∷ (fifteen ++ 0 ∷ 0 ∷ [])
+    ∷ [])
+    ≡ Busy 0 ∷ Busy 106 ∷ Busy 1000 ∷ Bad ∷ Bad ∷ Bad ∷ []
+unfolding allBusy sampleFrom fifteen sampleOf goodWords busyOf probe
+samples-by-words = refl
+
+-- BAD-SAMPLE is "4"
+sample-numbers : map sampleNumber (Busy 0 ∷ Busy 1000 ∷ Bad ∷ []) ≡ 0 ∷ 0 ∷ 4 ∷ []
+unfolding sampleNumber
+sample-numbers = refl
+
+-- "busy count above 1,000"; "load is 1,000 times that"
+
+counts : map badCount (0 ∷ 1000 ∷ 1001 ∷ []) ≡ false ∷ false ∷ true ∷ []
+unfolding badCount
+counts = refl
+
+loads : map loadOf (0 ∷ 1 ∷ 395 ∷ 1000 ∷ []) ≡ 0 ∷ 1000 ∷ 395000 ∷ 1000000 ∷ []
+unfolding loadOf
+loads = refl
+
+-- "Reactive levels wanted, by load": "below 300,000", "to 399,999", "to 499,999", "to 600,000" or "to 650,000", "above"; and not
+-- "Leaving 39.5 % in no state, or 60 % exactly in Restrictive"
+
+levels-of-profile-1 :
+    map (wantedBy (reactiveOf 1))
+    (0 ∷ 299999 ∷ 300000 ∷ 395000 ∷ 399999 ∷ 400000 ∷ 499999 ∷ 500000 ∷ 600000 ∷ 600001 ∷ 1000000 ∷ [])
+    ≡ 0 ∷ 0 ∷ 1 ∷ 1 ∷ 1 ∷ 2 ∷ 2 ∷ 3 ∷ 3 ∷ 4 ∷ 4 ∷ []
+unfolding wantedBy reactiveOf
+levels-of-profile-1 = refl
+
+levels-of-profile-2 :
+    map (wantedBy (reactiveOf 2))
+    (0 ∷ 299999 ∷ 300000 ∷ 395000 ∷ 399999 ∷ 400000 ∷ 499999 ∷ 500000 ∷ 650000 ∷ 650001 ∷ 1000000 ∷ [])
+    ≡ 0 ∷ 0 ∷ 1 ∷ 1 ∷ 1 ∷ 2 ∷ 2 ∷ 3 ∷ 3 ∷ 4 ∷ 4 ∷ []
+unfolding wantedBy reactiveOf
+levels-of-profile-2 = refl
+
+-- the waits of levels 0 to 4
+
+waits-of-profile-1 :
+    map (waitBy (reactiveOf 1)) (0 ∷ 1 ∷ 2 ∷ 3 ∷ 4 ∷ []) ≡ 100000 ∷ 200000 ∷ 400000 ∷ 500000 ∷ 1000000 ∷ []
+unfolding waitBy reactiveOf
+waits-of-profile-1 = refl
+
+waits-of-profile-2 :
+    map (waitBy (reactiveOf 2)) (0 ∷ 1 ∷ 2 ∷ 3 ∷ 4 ∷ []) ≡ 50000 ∷ 100000 ∷ 200000 ∷ 250000 ∷ 1000000 ∷ []
+unfolding waitBy reactiveOf
+waits-of-profile-2 = refl
+
+-- "Each sample moves the level by at most one towards the wanted one": from each level, towards 0 to 4
+level-steps :
+    map (λ (level : ℕ). map (towards level) (0 ∷ 1 ∷ 2 ∷ 3 ∷ 4 ∷ [])) (0 ∷ 1 ∷ 2 ∷ 3 ∷ 4 ∷ [])
+    ≡ (0 ∷ 1 ∷ 1 ∷ 1 ∷ 1 ∷ [])
+    ∷ (0 ∷ 1 ∷ 2 ∷ 2 ∷ 2 ∷ [])
+    ∷ (1 ∷ 1 ∷ 2 ∷ 3 ∷ 3 ∷ [])
+    ∷ (2 ∷ 2 ∷ 2 ∷ 3 ∷ 4 ∷ [])
+    ∷ (3 ∷ 3 ∷ 3 ∷ 3 ∷ 4 ∷ [])
+    ∷ []
+unfolding towards
+level-steps = refl
+
+-- "smoothed' = floor((2 × smoothed + kept + new) / 4)": what each number weighs, and which way a rest goes
+
+smoothing-weights :
+    smoothedOf 400 0 0 ∷ smoothedOf 0 400 0 ∷ smoothedOf 0 0 400 ∷ smoothedOf 100000 400000 800000 ∷ []
+    ≡ 200 ∷ 100 ∷ 100 ∷ 350000 ∷ []
+unfolding smoothedOf
+smoothing-weights = refl
+
+smoothing-rounds-down :
+    smoothedOf 1 0 0 ∷ smoothedOf 0 0 3 ∷ smoothedOf 1 1 0 ∷ smoothedOf 1 1 1 ∷ smoothedOf 1 2 3 ∷ []
+    ≡ 0 ∷ 0 ∷ 0 ∷ 1 ∷ 1 ∷ []
+unfolding smoothedOf
+smoothing-rounds-down = refl
+
+-- n below zero
+minus : ℕ → ℤ
+minus n = negℤ (pos n)
+
+-- "rounding towards minus infinity"
+rounding :
+    map (λ (z : ℤ). floorDiv z 5) (pos 6 ∷ pos 5 ∷ pos 4 ∷ pos 0 ∷ minus 1 ∷ minus 5 ∷ minus 6 ∷ minus 10 ∷ minus 11 ∷ [])
+    ≡ pos 1 ∷ pos 1 ∷ pos 0 ∷ pos 0 ∷ minus 1 ∷ minus 1 ∷ minus 2 ∷ minus 2 ∷ minus 3 ∷ []
+unfolding minus
+rounding = refl
+
+-- "held within": x below, at, between and above the two
+
+numbers-held : map (held 30 50) (0 ∷ 29 ∷ 30 ∷ 31 ∷ 49 ∷ 50 ∷ 51 ∷ []) ≡ 30 ∷ 30 ∷ 30 ∷ 31 ∷ 49 ∷ 50 ∷ 50 ∷ []
+numbers-held = refl
+
+offsets-held :
+    map (heldOffset 30 50) (minus 31 ∷ minus 30 ∷ minus 29 ∷ minus 1 ∷ pos 0 ∷ pos 49 ∷ pos 50 ∷ pos 51 ∷ [])
+    ≡ minus 30 ∷ minus 30 ∷ minus 29 ∷ minus 1 ∷ pos 0 ∷ pos 49 ∷ pos 50 ∷ pos 50 ∷ []
+unfolding minus
+offsets-held = refl
+
+whole-numbers-held :
+    map (heldWhole 30 50) (minus 40 ∷ minus 1 ∷ pos 0 ∷ pos 29 ∷ pos 31 ∷ pos 50 ∷ pos 51 ∷ [])
+    ≡ 30 ∷ 30 ∷ 30 ∷ 30 ∷ 31 ∷ 50 ∷ 50 ∷ []
+unfolding minus
+whole-numbers-held = refl
+
+-- "gap = 680,000 − smoothed'; offset = floor(6 × gap / 5), rounding towards minus infinity"; "gap −1 gives −2"
+offsets-about-the-target :
+    map (offsetOf profile3) (679994 ∷ 679995 ∷ 679999 ∷ 680000 ∷ 680001 ∷ 680004 ∷ 680005 ∷ 680006 ∷ [])
+    ≡ pos 7 ∷ pos 6 ∷ pos 1 ∷ pos 0 ∷ minus 2 ∷ minus 5 ∷ minus 6 ∷ minus 8 ∷ []
+unfolding minus offsetOf
+offsets-about-the-target = refl
+
+-- "then held within −250,000 to 500,000"
+offset-limits :
+    map (offsetOf profile3) (0 ∷ 263332 ∷ 263333 ∷ 263334 ∷ 888332 ∷ 888333 ∷ 888334 ∷ 1000000 ∷ [])
+    ≡ pos 500000
+    ∷ pos 500000
+    ∷ pos 500000
+    ∷ pos 499999
+    ∷ minus 249999
+    ∷ minus 250000
+    ∷ minus 250000
+    ∷ minus 250000
+    ∷ []
+unfolding minus offsetOf
+offset-limits = refl
+
+-- "duty' = floor(984 × duty / 1,000) + offset", by the duty and the smoothed load
+
+duty-rounds-down :
+    map (λ (duty : ℕ). dutyOf profile3 duty 680000) (10000000 ∷ 10000001 ∷ 10000002 ∷ 1000125 ∷ [])
+    ≡ 9840000 ∷ 9840000 ∷ 9840001 ∷ 984123 ∷ []
+unfolding offsetOf dutyOf
+duty-rounds-down = refl
+
+duty-by-load :
+    map (dutyOf profile3 10000000) (0 ∷ 580000 ∷ 679999 ∷ 680001 ∷ 780000 ∷ 1000000 ∷ [])
+    ≡ 10340000 ∷ 9960000 ∷ 9840001 ∷ 9839998 ∷ 9720000 ∷ 9590000 ∷ []
+unfolding offsetOf dutyOf
+duty-by-load = refl
+
+-- "then held within 600,000 to 30,000,000"; "Duty 30,000,000 at 0 stays; 600,000 at 1,000,000 stays."
+
+duty-stays : dutyOf profile3 30000000 0 ∷ dutyOf profile3 600000 1000000 ∷ [] ≡ 30000000 ∷ 600000 ∷ []
+unfolding offsetOf dutyOf
+duty-stays = refl
+
+duty-limits :
+    map (λ (duty : ℕ). dutyOf profile3 duty 0) (29979674 ∷ 29979675 ∷ 29979676 ∷ [])
+    ++ map (λ (duty : ℕ). dutyOf profile3 duty 680000) (609756 ∷ 609757 ∷ 609758 ∷ [])
+    ≡ 29999999 ∷ 30000000 ∷ 30000000 ∷ 600000 ∷ 600000 ∷ 600001 ∷ []
+unfolding offsetOf dutyOf
+duty-limits = refl
+
+-- "ceil(..)"
+rounding-up : map (λ (a : ℕ). ceilDiv a 5) (0 ∷ 1 ∷ 5 ∷ 6 ∷ 9 ∷ 10 ∷ 11 ∷ []) ≡ 0 ∷ 1 ∷ 1 ∷ 2 ∷ 2 ∷ 2 ∷ 3 ∷ []
+rounding-up = refl
+
+-- "ceil(on-time of the last admitted packet × 1,000,000,000 / duty), held within 25,000 to 1,000,000"
+
+waits-at-the-greatest-duty :
+    map (λ (ontime : ℕ). adaptiveWait (limitsOf 3) ontime 30000000) (1 ∷ 749 ∷ 750 ∷ 751 ∷ 753 ∷ 4000 ∷ [])
+    ≡ 25000 ∷ 25000 ∷ 25000 ∷ 25034 ∷ 25100 ∷ 133334 ∷ []
+unfolding adaptiveWait
+waits-at-the-greatest-duty = refl
+
+-- "Waits at duty 600,000: 599 gives 998,334; 600 and 601 give 1,000,000."
+waits-at-the-least-duty :
+    map (λ (ontime : ℕ). adaptiveWait (limitsOf 3) ontime 600000) (1 ∷ 15 ∷ 16 ∷ 599 ∷ 600 ∷ 601 ∷ 4000 ∷ [])
+    ≡ 25000 ∷ 25000 ∷ 26667 ∷ 998334 ∷ 1000000 ∷ 1000000 ∷ 1000000 ∷ []
+unfolding adaptiveWait
+waits-at-the-least-duty = refl
+
+-- the lines marked P, read off the statement about them: these numbers, and what the paper reads
+lines-marked-P :
+    map (wantedBy (reactiveOf 1)) (299000 ∷ 300000 ∷ 399000 ∷ [])
+    ++ map (wantedBy (reactiveOf 2)) (299000 ∷ 300000 ∷ 399000 ∷ [])
+    ++ wantedBy (reactiveOf 1) 600000 ∷ wantedBy (reactiveOf 2) 600000
+    ∷ wantedBy (reactiveOf 1) 601000 ∷ wantedBy (reactiveOf 2) 601000
+    ∷ wantedBy (reactiveOf 1) 651000 ∷ wantedBy (reactiveOf 2) 651000
+    ∷ smoothedOf 0 400000 400000 ∷ smoothedOf 200000 400000 400000
+    ∷ map (dutyOf profile3 10000000) (680000 ∷ 680001 ∷ 580000 ∷ [])
+    ++ map (λ (ontime : ℕ). adaptiveWait (limitsOf 3) ontime 30000000) (749 ∷ 750 ∷ 751 ∷ 4000 ∷ [])
+    ≡ 0 ∷ 1 ∷ 1 ∷ 0 ∷ 1 ∷ 1 ∷ 3 ∷ 3 ∷ 4 ∷ 3 ∷ 4 ∷ 4 ∷ 200000 ∷ 300000
+    ∷ 9840000 ∷ 9839998 ∷ 9960000 ∷ 25000 ∷ 25000 ∷ 25034 ∷ 133334 ∷ []
+unfolding readings
+lines-marked-P = readings-hold
