@@ -2,7 +2,7 @@
 
 use crate::draw::Draw;
 
-/// Inputs for each call: more than a branch predictor learns by heart.
+/// Inputs for each call: more than most branch predictors learn by heart.
 const INPUTS: usize = 1 << 15;
 
 impl Draw {
