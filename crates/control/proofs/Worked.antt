@@ -2,7 +2,7 @@
 -- definition that reads a sentence otherwise fails here.
 use Prim.Native.Nat.{ℕ, _*_, _≤_}
 use mathlib.Core.Path.{_≡_, refl}
-use mathlib.Core.Bool.{Bool, true, false}
+use mathlib.Core.Bool.{true, false}
 use mathlib.Core.List.{List, [], _∷_, map}
 use Rattle.rules.specs.Profiles.{within, reactiveOf, mostOntime, ontimeAllowed}
 use Rattle.rules.specs.Levels.{wantedBy, towards, waitBy}
