@@ -1,5 +1,5 @@
--- The program's turns (document 01, "The call log and its program"). Nothing is known of what a read brings, so a
--- turn is said to be that of some piece of a log, and the state at the end that of some log.
+-- The program's turns (document 01, "The call log and its program"). Nothing is known of what a read brings,
+-- so a turn is said to be that of some piece of a log, and the state at the end that of some log.
 use Prim.Native.Nat.{ℕ, _*_, _/_, _≤_}
 use mathlib.Core.Path.{_≡_}
 use mathlib.Core.Bool.{Bool, true}
@@ -12,8 +12,8 @@ use Rattle.calllog.specs.Steps.{atStart}
 use Rattle.calllog.specs.Buffers.{Put}
 use Rattle.calllog.specs.Text.{reachedFrom, blockBytes, turnText}
 
--- a piece was read and done on a state: all its whole records, and its text lies in the buffer; the program goes
--- on only behind a full block
+-- a piece was read and done on a state: all its whole records, and its text lies in the buffer; the program
+-- goes on only behind a full block
 pub record Turned (s : State) (buffer : List ℕ) (r : Progress) (after : List ℕ) : Type 0 where
   pub piece : List ℕ
   pub failed : Bool

@@ -38,7 +38,8 @@ did u =
 
 ends :
     (u : tie.After-block)
-    → u .block .result .end ≡ length (lines (u .before .before .before .before .args .state) (now (u .before .before .before .before .args .input)))
+    → u .block .result .end
+    ≡ length (lines (u .before .before .before .before .args .state) (now (u .before .before .before .before .args .input)))
 ends u = omega (arith, did u .put .place)
 
 block-requires : tie.Need-block-requires
@@ -58,7 +59,8 @@ returns c =
     let w = c .last-line in
     let p : Put (now (a .out)) 0 (turnText (a .state) (now (a .input)) (a .failed)) (w .result) (w .last .0) =
     subst⁻¹ (λ (t : List ℕ). Put (now (a .out)) 0 t (w .result) (w .last .0))
-    (ap (turnText (a .state) (now (a .input))) (not-true (a .failed) (c .before .if2 .taken)) ∙ ended (a .state) (now (a .input)) (not-true (goesOn (now (a .input))) (c .before .before .if1 .taken)))
+    (ap (turnText (a .state) (now (a .input))) (not-true (a .failed) (c .before .if2 .taken))
+    ∙ ended (a .state) (now (a .input)) (not-true (goesOn (now (a .input))) (c .before .before .if1 .taken)))
     (next (omega arith) (d .put) (w .ensures)) in (
       d .used,
       (
@@ -90,10 +92,13 @@ returns-2 c =
     let a = u .before .before .before .before .args in
     let d = did u in
     let w = u .block in
-    let text : (turnText (a .state) (now (a .input)) (a .failed) ≡ lines (a .state) (now (a .input))) × (c .if1 .out ≡ w .last .1 .1 .0) =
+    let text :
+    (turnText (a .state) (now (a .input)) (a .failed) ≡ lines (a .state) (now (a .input)))
+    × (c .if1 .out ≡ w .last .1 .1 .0) =
     ⊎-elim
     (λ way. (
-      ap (turnText (a .state) (now (a .input))) (not-false (a .failed) (way .1 .left)) ∙ unread (a .state) (now (a .input)) (not-true (goesOn (now (a .input))) (way .0 .taken)),
+      ap (turnText (a .state) (now (a .input))) (not-false (a .failed) (way .1 .left))
+          ∙ unread (a .state) (now (a .input)) (not-true (goesOn (now (a .input))) (way .0 .taken)),
       way .2,
     ))
     (λ way. (no-last (a .state) (now (a .input)) (a .failed) (not-false (goesOn (now (a .input))) (way .0 .left)), way .1))
