@@ -2,6 +2,8 @@
 -- journal; runs. Last, the definitions run on document 01's examples.
 pub mod Fours
 pub mod Window
+pub mod Aging
+pub mod AnySecond
 pub mod Columns
 pub mod Turns
 pub mod Refusals

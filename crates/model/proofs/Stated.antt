@@ -28,7 +28,8 @@ use Rattle.model.specs.Calls.{Call, words, count, offer, poll, Making, i
 use Rattle.model.specs.State.{Status, View, sound}
 use Rattle.model.specs.Effects.{Result}
 use Rattle.model.specs.Gate.{makeChecks, makeIn, make, checks, call}
-use Rattle.model.specs.Journal.{Entry, Admission, Way, expiry, admission, Departure, Journal}
+use Rattle.model.specs.declared.Admission.{Admission}
+use Rattle.model.specs.Journal.{Entry, Way, expiry, admission, Departure, Journal}
 use Rattle.model.specs.Journal.{opened, turned, arriving, entryOf, lowest, top, atPoll, journalOf, airTime}
 use Rattle.model.specs.Claims.{viewAfter, events, All, InTurn, Newest, Claims}
 use Rattle.model.specs.Delivery.{Among, longestWait, lastPoll, PolledEvery}

@@ -16,7 +16,8 @@ use Rattle.model.specs.Fours.{each, howMany}
 use Rattle.model.specs.Calls.{Call, poll, Making, isRefused}
 use Rattle.model.specs.State.{Status, View, sound}
 use Rattle.model.specs.Gate.{make, call}
-use Rattle.model.specs.Journal.{Entry, Admission, Way, expiry, admission, Departure, Journal}
+use Rattle.model.specs.declared.Admission.{Admission}
+use Rattle.model.specs.Journal.{Entry, Way, expiry, admission, Departure, Journal}
 use Rattle.model.specs.Journal.{opened, turned, atPoll, top, journalOf, airTime}
 
 -- the state after a list of calls
@@ -43,6 +44,10 @@ InTurn l (admission n) = n ≤ l .earlier + suc (l .above)
 abbrev pub Newest : Last → List Admission → Type 0
 Newest last [] = eqb (last .admitted) 1 ≡ false
 Newest last (a ∷ l) = (eqb (last .admitted) 1 ≡ true) × (last .at ≡ a .at) × (last .ontime ≡ a .ontime)
+
+-- "sum to at most 30,000" (document 02, W-207)
+abbrev pub mostInSecond : ℕ
+mostInSecond = 30000
 
 -- at the end of a run of a profile, where one more poll may come
 pub record Claims (profile : ℕ) (v : View) (j : Journal) : Type 0 where
