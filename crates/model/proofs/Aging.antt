@@ -176,7 +176,8 @@ module _ (ontime : ℕ) where
       on-cond (λ n. from ≤ n) (airAllows ontime (a ∷ l)) (λ e. omega arith)
       (λ e. omega (arith, h .0 .late, from-later profile now (a .at + spacing) (a .at + fullAge) l (omega arith) (h .1)))
 
-  pub allowed-from : (profile now earliest from then : ℕ) (l : List Admission) → ontime ≤ mostAir → AllNoted profile now earliest l
+  pub allowed-from : (profile now earliest from then : ℕ) (l : List Admission) → ontime ≤ mostAir
+      → AllNoted profile now earliest l
       → from ≤ then → airAllows ontime (young then l) ≡ leb (allowedFrom ontime from l) then
   unfolding allowedFrom young airOf
   allowed-from profile now earliest from then [] o h f = le-leb (ontime + 0) mostAir (omega arith) ∙ sym (le-leb from then f)

@@ -1,5 +1,5 @@
 -- The ledger is the journal's last second, and the air allowed each admission of the journal when it came. So any half-open
--- stretch of a second has at most 30,000 µs of air time: the newest admission in it came less than a second after the others in it.
+-- stretch of a second has at most 30,000 µs of air time: the newest admission in it came less than a second after the others.
 use Prim.Native.Nat.{ℕ, _+_, _-_, _≤_, _<_}
 use mathlib.Core.Path.{_≡_, refl, ap₂, _∙_}
 use mathlib.Core.Bool.{cond, _&&_}

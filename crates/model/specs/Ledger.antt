@@ -25,9 +25,13 @@ spacing = 25000
 abbrev pub places : ℕ
 places = 40
 
--- "younger than 1,000,000 µs"; "an admission exactly 1,000,000 µs old left out"
+-- "an admission exactly 1,000,000 µs old left out": what came at a time is younger
+abbrev pub youngAt : (now at : ℕ) → Bool
+youngAt now at = ltb now (at + fullAge)
+
+-- "younger than 1,000,000 µs"
 abbrev pub isYoung : (now : ℕ) → Admission → Bool
-isYoung now a = ltb now (a .at + fullAge)
+isYoung now a = youngAt now (a .at)
 
 -- "drops admissions that have reached 1,000,000 µs of age"
 unfoldable pub young : (now : ℕ) → List Admission → List Admission
@@ -64,7 +68,7 @@ spacedOut profile now earliest (a ∷ l) =
 
 -- "the last admission whenever that is young enough"
 abbrev pub isRecent : (now : ℕ) → Last → Bool
-isRecent now last = eqb (last .admitted) 1 && ltb now (last .at + fullAge)
+isRecent now last = eqb (last .admitted) 1 && youngAt now (last .at)
 
 -- "its newest being the last admission"
 unfoldable pub newestIs : Last → List Admission → Bool
