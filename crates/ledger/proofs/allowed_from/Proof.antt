@@ -26,7 +26,7 @@ returns c =
     allow-here (s .args .n) (s .args .ats .now) (s .args .ontimes .now) (s .args .ontime) (s .args .time) (a .loop .rest)
     (a .loop .from)
     (a .loop .i) (a .loop .inv .0) (omega arith) (omega (arith, s .pre .0 .0, s .pre .1 .0))
-    (omega (arith, s .pre .0 .1, s .pre .1 .0)) (c .if1 .taken)
+    (omega (arith, s .pre .0 .1, s .pre .1 .0)) (omega (arith, c .if1 .taken))
 
 mul-from : tie.Need-mul-from Inv-loop μ-loop
 mul-from c = search needs
