@@ -4,6 +4,7 @@ pub mod Fours
 pub mod Window
 pub mod Columns
 pub mod Turns
+pub mod Displacing
 pub mod Refusals
 pub mod Profile
 pub mod Orders
