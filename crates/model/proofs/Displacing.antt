@@ -1,15 +1,16 @@
 -- Behind a line stand only lines that came later, so a line with m behind it is at least m before the newest offer of its
 -- priority. The top of five has four behind it, and the offer that displaces it is one more.
 use Prim.Native.Nat.{ℕ, zero, suc, _+_, _≤_}
-use mathlib.Core.Path.{_≡_}
+use mathlib.Core.Path.{_≡_, refl}
 use mathlib.Core.Bool.{Bool}
 use mathlib.Core.List.{List, [], _∷_}
 use native.Mathlib.Omega.{arith}
+use lib.Dec.{leb}
 use lib.ListN.{length, drop}
 use Rattle.rules.proofs.Cases.{on-cond}
 use Rattle.model.specs.declared.Packet.{Packet}
 use Rattle.model.specs.Fours.{Four, each, column, change}
-use Rattle.model.specs.Journal.{Entry, Departure, picked, atFoot}
+use Rattle.model.specs.Journal.{Entry, Departure, Journal, picked, displacedTop, roomFor, atFoot}
 use Rattle.model.specs.Claims.{ByTheFifth, NotDisplaced}
 use Rattle.model.proofs.Fours.{Fours, fours-each}
 
@@ -77,3 +78,21 @@ all-foot zero p l offers q e h = (behind-foot _ l (q .c0) e (h .0), h .1, h .2, 
 all-foot (suc zero) p l offers q e h = (h .0, behind-foot _ l (q .c1) e (h .1), h .2, h .3)
 all-foot (suc (suc zero)) p l offers q e h = (h .0, h .1, behind-foot _ l (q .c2) e (h .2), h .3)
 all-foot (suc (suc (suc n))) p l offers q e h = (h .0, h .1, h .2, behind-foot _ l (q .c3) e (h .3))
+
+-- what holds of a journal, and of it without the top of a column, holds of it once room is made
+pub on-room : (P : Journal → Type 0) (j : Journal) (n : ℕ) → P j
+    → ((l : Entry) (ls : List Entry) → column n (j .columns) ≡ l ∷ ls → P (displacedTop j n (l ∷ ls))) → P (roomFor j n)
+on-room P j n f g = on-cond P (leb 5 (length (column n (j .columns)))) (λ u. by (column n (j .columns)) refl) (λ u. f)
+  where
+    by : (ls : List Entry) → column n (j .columns) ≡ ls → P (displacedTop j n ls)
+    by [] e = f
+    by (l ∷ ls) e = g l ls e
+
+pub room-time : (j : Journal) (n : ℕ) → roomFor j n .time ≡ j .time
+room-time j n = on-room (λ (k : Journal). k .time ≡ j .time) j n refl (λ l ls e. refl)
+
+pub room-admissions : (j : Journal) (n : ℕ) → roomFor j n .admissions ≡ j .admissions
+room-admissions j n = on-room (λ (k : Journal). k .admissions ≡ j .admissions) j n refl (λ l ls e. refl)
+
+pub room-offers : (j : Journal) (n : ℕ) → roomFor j n .offers ≡ j .offers
+room-offers j n = on-room (λ (k : Journal). k .offers ≡ j .offers) j n refl (λ l ls e. refl)

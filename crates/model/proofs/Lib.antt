@@ -18,6 +18,7 @@ pub mod Runs
 pub mod Demand3
 pub mod DeliveryLines
 pub mod DeliveryPast
+pub mod DeliverySpared
 pub mod DeliverySteps
 pub mod Delivery
 pub mod Sampling
