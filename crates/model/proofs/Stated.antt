@@ -199,8 +199,11 @@ module _ (m : Making) (calls : List Call) (ready : make m .answer ≡ Ready) whe
       → ⊥)
       × (v .counts .displaced ≡ 0)
   old-way-keeps-all old =
-      let h = old-way-displaces-nothing m calls ready old in
-      (λ l priority n at left. all-of _ (record { entry = l; way = displacement priority n; at = at }) (j .departures) (h .0) left, h .1)
+      let h = old-way-displaces-nothing m calls ready old in (
+        λ l priority n at left.
+            all-of _ (record { entry = l; way = displacement priority n; at = at }) (j .departures) (h .0) left,
+        h .1,
+      )
 
 -- a run is as long as one likes: its calls in two parts are one run
 in-parts : (v : View) (j : Journal) (cs ds : List Call)
@@ -232,8 +235,8 @@ module _ (m : Making) (p at : ℕ) (o : Offer) (before behind : List Call) where
       × Among (record { entry = own; way = admission n; at = t }) (end .departures)
       × (t ≤ turned runBefore at .time + µs)
 
-  -- sent within (k + 1) × (quiet + p), neither expired nor displaced, if fewer than five offers of priority 0 are accepted while it
-  -- waits, or in the old way
+  -- sent within (k + 1) × (quiet + p), neither expired nor displaced, if fewer than five offers of priority 0 are accepted while
+  -- it waits, or in the old way
   sent-in-time : (µs : ℕ) → quiet (m .profile) ≡ µs → make m .answer ≡ Ready → o .priority ≡ 0
       → call (viewAfter (make m .view) before) (offer at o) .answer ≡ Taken
       → suc (own .above) * (µs + p) < o .lifetime
@@ -564,8 +567,8 @@ polled-every-10 = (
   ),
 )
 
--- "fewer than five offers of priority 0 are accepted while it waits": four are; others of another priority, refused, or once it is
--- gone do not count
+-- "fewer than five offers of priority 0 are accepted while it waits": four are; others of another priority, refused, or once it
+-- is gone do not count
 abbrev fourMore : List (Call × Answer)
 fourMore =
     (offering 6 2 0 1 99, Taken)
@@ -582,6 +585,9 @@ fourBehind =
     ∷ entry (packet 5 0 1 99 1) 3 0 4
     ∷ entry (packet 6 0 1 99 1) 4 0 5
     ∷ []
+
+later : All (λ (l : Entry). 1 < l .ordinal) fourBehind
+later = (omega arith, (omega arith, (omega arith, (omega arith, tt))))
 
 gone : (ls : List Entry) → All (λ (l : Entry). 1 < l .ordinal) ls → Among alone ls → ⊥
 gone ls h there = omega (arith, all-of (λ (l : Entry). 1 < l .ordinal) alone ls h there)
@@ -602,7 +608,7 @@ four-of-priority-0 = (
           λ w. omega arith,
           (
             λ w. omega arith,
-            (λ w. omega arith, (λ w. absurd (gone fourBehind (omega arith, (omega arith, (omega arith, (omega arith, tt)))) w), tt)),
+            (λ w. omega arith, (λ w. absurd (gone fourBehind later w), tt)),
           ),
         ),
       ),

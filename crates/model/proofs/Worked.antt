@@ -78,7 +78,8 @@ abbrev pub offering : (stamp id priority ontime lifetime : ℕ) → Call
 offering stamp id priority ontime lifetime =
     offer stamp (record { id = id; priority = priority; ontime = ontime; lifetime = lifetime })
 
--- a gate made at stamp 0, in the new way and in the old one; the state after calls, and their answers; the answers of calls each on one state
+-- a gate made at stamp 0, in the new way and in the old one; the state after calls, and their answers; the answers of calls each
+-- on one state
 unfoldable pub made : (profile : ℕ) → View
 unfolding of-runs
 made profile = make (making profile 0) .view
@@ -357,7 +358,8 @@ unchanged = refl
 sampled-only :
     call crowded (count 113 1000)
     ≡ result
-    (state (clockAt 130 113) (steered 1 1 600000 0 0 0) (lastAt 15 400 1) (twoDisplaced 15 3 1) (queues five0 one1 one2 two3)) Taken
+    (state (clockAt 130 113) (steered 1 1 600000 0 0 0) (lastAt 15 400 1) (twoDisplaced 15 3 1) (queues five0 one1 one2 two3))
+    Taken
 unfolding of-runs
 sampled-only = refl
 
