@@ -6,6 +6,7 @@ pub mod Aging
 pub mod AnySecond
 pub mod Columns
 pub mod Turns
+pub mod Displacing
 pub mod Refusals
 pub mod Profile
 pub mod Orders
@@ -19,6 +20,7 @@ pub mod Runs
 pub mod Demand3
 pub mod DeliveryLines
 pub mod DeliveryPast
+pub mod DeliverySpared
 pub mod DeliverySteps
 pub mod Delivery
 pub mod Sampling
