@@ -1,8 +1,8 @@
 -- The ledger is the journal's last second, and the air allowed each admission of the journal when it came. So any half-open
 -- stretch of a second has at most 30,000 µs of air time: the newest admission in it came less than a second after the others.
 use Prim.Native.Nat.{ℕ, _+_, _-_, _≤_, _<_}
-use mathlib.Core.Path.{_≡_, refl, ap₂, _∙_}
-use mathlib.Core.Bool.{cond, _&&_}
+use mathlib.Core.Path.{_≡_, refl, ap, ap₂, _∙_}
+use mathlib.Core.Bool.{true, cond, _&&_}
 use mathlib.Core.List.{List, [], _∷_, _++_}
 use native.Mathlib.Omega.{arith}
 use lib.Dec.{leb, ltb}
@@ -10,9 +10,9 @@ use Rattle.rules.proofs.Cases.{on-cond, on-test, both}
 use Rattle.rules.proofs.Tests.{tested}
 use Rattle.control.specs.Owed.{second}
 use Rattle.model.specs.declared.Admission.{Admission}
-use Rattle.model.specs.Ledger.{mostAir, isYoung, young, airOf}
+use Rattle.model.specs.Ledger.{mostAir, isYoung, young, airOf, airAllows}
 use Rattle.model.specs.Journal.{airIn, lastSecond}
-use Rattle.model.specs.Claims.{All, mostInSecond}
+use Rattle.model.specs.Claims.{All, Apart, mostInSecond}
 use Rattle.model.proofs.Aging.{air-append, young-append}
 
 -- what the ledger keeps as time goes on is the journal's last second
@@ -65,6 +65,39 @@ in-second from (a ∷ l) h =
     let within = both (leb from (a .at)) (ltb (a .at) (from + second)) e in
     omega (arith, h .0, rw e at (covered from (a .at) (a ∷ l) (omega (tested, within .1)))))
     (λ e. omega (arith, in-second from l (h .1)))
+
+-- a ledger that follows the journal's admissions
+pub record Followed (now : ℕ) (l ledger : List Admission) : Type 0 where
+  pub same : ledger ≡ lastSecond now l
+  pub allowed : Fitted l
+  pub apart : Apart l
+
+pub followed-later : (now then : ℕ) (l ledger : List Admission) → now ≤ then → Followed now l ledger
+    → Followed then l (young then ledger)
+followed-later now then l ledger s f =
+    record { same = ap (young then) (f .same) ∙ young-last now then l s; allowed = f .allowed; apart = f .apart }
+
+-- one more
+module _ (now ontime : ℕ) (l ledger : List Admission) where
+  abbrev new : Admission
+  new = record { at = now; ontime = ontime }
+
+  noted : ledger ≡ lastSecond now l → ledger ++ (new ∷ []) ≡ lastSecond now (new ∷ l)
+  unfolding lastSecond
+  noted e =
+      on-test (λ u. ledger ++ (new ∷ []) ≡ lastSecond now l ++ cond u (new ∷ []) []) (ltb (now - now) 1000000)
+      (λ u. ap (λ (x : List Admission). x ++ (new ∷ [])) e) (λ u. absurd (omega tested))
+
+  pub followed-sent : airAllows ontime ledger ≡ true → Apart (new ∷ l) → Followed now l ledger
+      → Followed now (new ∷ l) (ledger ++ (new ∷ []))
+  unfolding airOf
+  followed-sent a gap f =
+      let e = noted (f .same) in
+      record {
+        same = e;
+        allowed = (omega (tested, air-append ledger (new ∷ []), ap airOf e), f .allowed);
+        apart = gap;
+      }
 
 -- after the quiet time it is empty
 pub last-empty : (now gap : ℕ) (l : List Admission) → second ≤ gap → All (λ (a : Admission). a .at + gap ≤ now) l

@@ -12,6 +12,7 @@ pub mod Profile
 pub mod Orders
 pub mod SoundQueues
 pub mod Counting
+pub mod SoundLedger
 pub mod Sound
 pub mod Gaps
 pub mod Invariant
