@@ -17,6 +17,7 @@ pub mod Sound
 pub mod Gaps
 pub mod Invariant
 pub mod KeepsSound
+pub mod Closing
 pub mod Runs
 pub mod Demand3
 pub mod DeliveryLines
@@ -28,6 +29,7 @@ pub mod Sampling
 pub mod Computing
 pub mod Worked
 pub mod WorkedStates
+pub mod WorkedSecond
 pub mod SampleLog
 pub mod DeliveryExample
 pub mod Stated

@@ -1,5 +1,5 @@
--- A ledger is sound exactly if these facts hold of it. Later, while the last admission is young it is still the newest, and once it
--- has aged all have; an admission that comes the gap after the last, and that the air allows, is the newest in its turn.
+-- A ledger is sound exactly if these facts hold of it. Later, while the last admission is young it is still the newest, and once
+-- it has aged all have; an admission that comes the gap after the last, and that the air allows, is the newest in its turn.
 use Prim.Native.Nat.{ℕ, _+_, _≤_}
 use mathlib.Core.Path.{_≡_, refl}
 use mathlib.Core.Bool.{Bool, true, false, cond, _&&_}

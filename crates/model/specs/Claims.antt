@@ -18,7 +18,8 @@ use Rattle.model.specs.State.{Status, View, sound}
 use Rattle.model.specs.Gate.{make, call}
 use Rattle.model.specs.declared.Admission.{Admission}
 use Rattle.model.specs.Journal.{Entry, Way, expiry, displacement, admission, Departure}
-use Rattle.model.specs.Journal.{Journal, opened, turned, atPoll, top, journalOf, airTime, airIn, lastSecond}
+use Rattle.model.specs.Journal.{Journal, opened, turned, atPoll, top, journalOf, airTime, airIn}
+use Rattle.model.specs.Journal.{lastSecond}
 
 -- the state after a list of calls
 unfoldable pub viewAfter : {h : Holding} → Status h → List Call → Status h

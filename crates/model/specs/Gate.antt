@@ -96,8 +96,8 @@ abbrev pub FortyAreEnough : Holding → Type 0
 FortyAreEnough h = (v : Status h) → sound v ≡ true → length (v .ledger) ≤ places
 
 -- a state so many µs later, "if no sample, offer or expiry came between and the clock had no end"
-abbrev pub later : {h : Holding} → Status h → (d : ℕ) → Status h
-later v d = aged (withClock v (record { time = v .clock .time + d; stamp = v .clock .stamp }))
+abbrev pub waited : {h : Holding} → Status h → (d : ℕ) → Status h
+waited v d = aged (withClock v (record { time = v .clock .time + d; stamp = v .clock .stamp }))
 
 -- "CLOSED reports the smallest further wait after which that packet would go" (document 02, W-207): d µs
 -- later the poll of that packet sends exactly if d is at least the number
@@ -105,4 +105,4 @@ abbrev pub ClosedIsLeast : Holding → Type 0
 ClosedIsLeast h =
     (v : Status h) (stamp n : ℕ) → call v (poll stamp) .answer ≡ Closed n
     → (d : ℕ)
-    → isSent (polled (later (refreshed v stamp) d) (h .next (refreshed v stamp .waiting)) .answer) ≡ leb n d
+    → isSent (polled (waited (refreshed v stamp) d) (h .next (refreshed v stamp .waiting)) .answer) ≡ leb n d
