@@ -210,7 +210,7 @@ pub struct Turn {
 /// What a burst hands back.
 #[repr(C)]
 #[derive(Clone, Copy, Debug, Default, PartialEq, Eq, Hash)]
-pub struct Burst {
+pub struct BurstTurn {
     /// The next state.
     pub state: State,
     /// 0, or 13 or 12 if the whole burst was refused. A record's own refusal stands in its answer byte.
@@ -265,7 +265,7 @@ unsafe extern "C" {
         bytes: usize,
         answers: *mut u8,
         room: usize,
-    ) -> Burst;
+    ) -> BurstTurn;
 
     /// Whether a packet may go, and which.
     pub safe fn presscurlew_poll(state: State, stamp: u32) -> Turn;
@@ -294,7 +294,7 @@ pub fn sample_words(state: State, words: &[u64], stamp: u32) -> Turn {
 /// assert_eq!(turn.state, sys::presscurlew_offer(fresh, 7, 1, 400, 60_000, 100).state);
 /// ```
 #[allow(unsafe_code)]
-pub fn burst(state: State, records: &[u8], answers: &mut [u8]) -> Burst {
+pub fn burst(state: State, records: &[u8], answers: &mut [u8]) -> BurstTurn {
     let (bytes, room) = (records.len(), answers.len());
     // SAFETY: the slices have so many bytes, and one that can be written lies apart from all others.
     unsafe { presscurlew_burst(state, records.as_ptr(), bytes, answers.as_mut_ptr(), room) }
@@ -328,7 +328,7 @@ mod tests {
             // SAFETY: a null pointer has a count of 0, and the record has 16 bytes.
             let turn = unsafe { presscurlew_burst(fresh, records, bytes, ptr::null_mut(), 0) };
             let state = fresh;
-            assert_eq!(turn, Burst { state, number });
+            assert_eq!(turn, BurstTurn { state, number });
         }
     }
 }
