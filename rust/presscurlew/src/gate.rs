@@ -90,6 +90,7 @@ impl Offer {
     /// identifier (4), stamp (4), little-endian. [`Gate::offer_burst`] does it by itself.
     ///
     /// A priority above 255 is written as 255 and an on-time above 65,535 as 65,535, which is all that their bytes hold.
+    #[inline]
     pub fn record(self, stamp: u32) -> [u8; sys::RECORD_BYTES] {
         // The record is refused just as the single offer is: no priority above 3 and no on-time above 4,000 is allowed in
         // any profile, so that the number written gets 5 or 6 exactly if the one given does; and no other refusal looks
