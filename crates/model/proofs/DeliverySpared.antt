@@ -1,8 +1,8 @@
 -- What displaces a line of priority 0 that waits is the fifth or a later accepted offer of priority 0 after it, by demand 3; so
 -- where fewer come while it waits nothing does. And in the old way nothing is displaced at all.
-use Prim.Native.Nat.{ℕ, suc, _+_, _<_, _≤_}
-use mathlib.Core.Path.{_≡_, refl, ap, sym, _∙_, subst}
-use mathlib.Core.Logic.{inl, inr, ⊎-elim}
+use Prim.Native.Nat.{ℕ, suc}
+use mathlib.Core.Path.{_≡_, ap, sym, _∙_, subst}
+use mathlib.Core.Logic.{inl, ⊎-elim}
 use mathlib.Core.List.{List, [], _∷_, map}
 use native.Mathlib.Omega.{arith}
 use lib.ListN.{length}
@@ -16,7 +16,7 @@ use Rattle.model.specs.Gate.{call}
 use Rattle.model.specs.Journal.{Entry, Departure, displacement, Journal, turned, outlivedIn, struck, arriving, roomFor}
 use Rattle.model.specs.Journal.{entered, top, sentOf, atPoll, recorded, fed, journalOf}
 use Rattle.model.specs.Claims.{viewAfter, events, All, Claims}
-use Rattle.model.specs.Delivery.{Among, Waits, Left, FewerThanFive}
+use Rattle.model.specs.Delivery.{Among, Waits, Left, FewAfter, FewerThanFive}
 use Rattle.model.proofs.Turns.{byExpiry}
 use Rattle.model.proofs.Displacing.{DisplacedByTheFifth, StaysUndisplaced, on-room}
 use Rattle.model.proofs.DeliveryLines.{all-of, of-both, was-there, not-both, none-struck}
@@ -46,11 +46,11 @@ not-sent l j (x ∷ ls) h priority n at = ⊎-elim (not-both _ _ _ at x l (λ w.
 module _ (l : Entry) (zero : l .packet .priority ≡ 0) where
   -- an offer: the top of its column is the line only if five came
   not-spilled : (j : Journal) (new : Packet) → NotDisplacedYet l j
-      → (Waits l j → length (entered (roomFor j (new .priority)) new .offers .c0) < l .ordinal + 5)
+      → (Waits l j → FewAfter l (entered (roomFor j (new .priority)) new))
       → All DisplacedByTheFifth (roomFor j (new .priority) .departures) → NotDisplacedYet l (roomFor j (new .priority))
   not-spilled j new h =
       on-room
-      (λ (k : Journal). (Waits l j → length (entered k new .offers .c0) < l .ordinal + 5)
+      (λ (k : Journal). (Waits l j → FewAfter l (entered k new))
       → All DisplacedByTheFifth (k .departures)
       → NotDisplacedYet l k)
       j (new .priority) (λ few by. h)
@@ -74,7 +74,7 @@ module _ (l : Entry) (zero : l .packet .priority ≡ 0) where
       (h priority n at))
 
   not-by-call : (j : Journal) (c : Call) (a : Answer) → NotDisplacedYet l j
-      → (Waits l j → length (recorded j c a .offers .c0) < l .ordinal + 5) → All DisplacedByTheFifth (recorded j c a .departures)
+      → (Waits l j → FewAfter l (recorded j c a)) → All DisplacedByTheFifth (recorded j c a .departures)
       → NotDisplacedYet l (recorded j c a)
   not-by-call j (words stamp ws) a h few by = h
   not-by-call j (count stamp busy) a h few by = h
@@ -87,11 +87,11 @@ module _ (l : Entry) (zero : l .packet .priority ≡ 0) where
       (λ u. not-struck l (turned j stamp) h)
 
   not-by-one : (j : Journal) (c : Call) (a : Answer) → NotDisplacedYet l j
-      → (Waits l j → length (fed j c a .offers .c0) < l .ordinal + 5) → All DisplacedByTheFifth (fed j c a .departures)
+      → (Waits l j → FewAfter l (fed j c a)) → All DisplacedByTheFifth (fed j c a .departures)
       → NotDisplacedYet l (fed j c a)
   not-by-one j c a h =
       on-cond
-      (λ (k : Journal). (Waits l j → length (k .offers .c0) < l .ordinal + 5)
+      (λ (k : Journal). (Waits l j → FewAfter l k)
       → All DisplacedByTheFifth (k .departures)
       → NotDisplacedYet l k)
       (isRefused a) (λ u few by. h) (λ u. not-by-call j c a h)

@@ -93,6 +93,3 @@ room-time j n = on-room (λ (k : Journal). k .time ≡ j .time) j n refl (λ l l
 
 pub room-admissions : (j : Journal) (n : ℕ) → roomFor j n .admissions ≡ j .admissions
 room-admissions j n = on-room (λ (k : Journal). k .admissions ≡ j .admissions) j n refl (λ l ls e. refl)
-
-pub room-offers : (j : Journal) (n : ℕ) → roomFor j n .offers ≡ j .offers
-room-offers j n = on-room (λ (k : Journal). k .offers ≡ j .offers) j n refl (λ l ls e. refl)

@@ -55,8 +55,8 @@ not-live :
 unfolding of-runs
 not-live = refl
 
--- a state of profile 3 at 100 that has a sample kept, something admitted, one displaced and packets in two queues; whether a state
--- is sound, and whether this one is with one part in place of its own
+-- a state of profile 3 at 100 that has a sample kept, something admitted, one displaced and packets in two queues; whether a
+-- state is sound, and whether this one is with one part in place of its own
 abbrev oneDisplaced : (accepted sent expired : ℕ) → Counts
 oneDisplaced accepted sent expired = withDisplaced 1 (counted accepted sent expired)
 

@@ -101,7 +101,7 @@ Demand3 =
     → Claims (m .profile) (viewAfter (make m .view) calls)
     (journalOf (opened (m .stamp)) (events (make m .view) calls))
 
--- no packet leaves by displacement
+-- not by displacement
 abbrev pub NotDisplaced : Way → Type 0
 NotDisplaced expiry = Unit {0}
 NotDisplaced (displacement priority n) = ⊥
