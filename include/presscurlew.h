@@ -1,15 +1,17 @@
 /*
  * Presscurlew: a transmit gate for a shared 5.9 GHz radio channel, for radio stacks in C and C++.
  *
- * Two groups of calls:
- *   the gate    make, sample, offer and poll on a state that the host keeps               link libhost.a
+ * Three archives, each for itself:
+ *   the gate    make, sample, offer and poll on a state that the host keeps                link libhost.a
+ *   the burst   many offers on such a state in one call                                    link libbursts.a
  *   the rules   the gate's rules on plain numbers, for a stack that has a gate of its own  link libcstack.a
- * Both archives stand in target/staticlib (x86-64, System V calling convention).
+ * They stand in target/staticlib (x86-64, System V calling convention).
  *
  * Each call is proved to answer what its comment says, for any numbers and any state at all: nothing is
  * undefined and nothing aborts. All are pure functions: what they need comes in by value (but for the words
- * of a sample, which are only read) and what they give goes out by value. They keep nothing, allocate
- * nothing and take no lock. Any number of threads, and interrupt handlers, may call them at once.
+ * of a sample and the records of a burst, which are only read) and what they give goes out by value (but for
+ * the answers of a burst, which are written). They keep nothing, allocate nothing and take no lock. Any number
+ * of threads, and interrupt handlers, may call them at once.
  *
  * Units
  *   time      microseconds (us)
@@ -39,7 +41,7 @@ extern "C" {
 /*
  * The refusal numbers of the gate. A call tests 9, 2 and 3, then 4, or 5 to 8 and 11, as they apply; the first
  * that holds is the answer. A refused call changes nothing: it hands back the state that it was given,
- * clock and counts included.
+ * clock and counts included. A burst tests 13, then 12, and then goes record by record.
  */
 enum presscurlew_refusal {
     PRESSCURLEW_BAD_PROFILE = 1,  /* make: the profile is not 1 to 3 */
@@ -51,7 +53,10 @@ enum presscurlew_refusal {
     PRESSCURLEW_BAD_LIFETIME = 7, /* the lifetime is 0 or above 60,000,000 */
     PRESSCURLEW_QUEUE_FULL = 8,   /* 5 unexpired packets of this priority wait */
     PRESSCURLEW_NO_STATE = 9,     /* the state is not sound: make refused it, or it was changed */
-    PRESSCURLEW_SPENT = 11        /* the gate has accepted 10^15 offers; 10 is a refusal of the log program alone */
+    PRESSCURLEW_BAD_KIND = 10,    /* burst, as the answer to one record: its kind is not 2 */
+    PRESSCURLEW_SPENT = 11,       /* the gate has accepted 10^15 offers */
+    PRESSCURLEW_NO_ROOM = 12,     /* burst: fewer answer bytes than records */
+    PRESSCURLEW_TORN_LOG = 13     /* burst: the bytes of the records are not a multiple of 16 */
 };
 
 /*
@@ -215,6 +220,75 @@ presscurlew_turn presscurlew_sample_count(presscurlew_state state, uint32_t busy
  */
 presscurlew_turn presscurlew_offer(presscurlew_state state, uint32_t id, uint32_t priority, uint32_t ontime,
                                    uint32_t lifetime, uint32_t stamp);
+
+/* A record of a burst has so many bytes, and its first one is this kind. */
+enum { PRESSCURLEW_RECORD_BYTES = 16, PRESSCURLEW_RECORD_OFFER = 2 };
+
+/* What a burst hands back. */
+typedef struct presscurlew_burst_turn {
+    presscurlew_state state; /* to keep, and to hand to the next call */
+    uint32_t number;         /* 0, PRESSCURLEW_TORN_LOG or PRESSCURLEW_NO_ROOM; of the burst, not of a record */
+} presscurlew_burst_turn;
+
+/*
+ * A burst: many offers in one call, for an application that hands packets over together. The state goes there and
+ * back once, so that it takes far less time than the single calls; the state after it and every answer are
+ * theirs, one presscurlew_offer after the other.
+ *
+ * `records` points to `bytes` bytes, which are only read: 16 for each record, laid out as in the call log,
+ * little-endian.
+ *
+ *   byte       0     1         2 and 3   4 to 7    8 to 11     12 to 15
+ *              kind  priority  on-time   lifetime  identifier  stamp
+ *
+ * presscurlew_put_offer, below, puts an offer there. `answers` points to `room` bytes, one for each record, and any
+ * more are not written. Record by record, from the first:
+ *   kind 2      is offered as by presscurlew_offer. Its answer byte is 0 for TAKEN, else the number of the refusal
+ *   other kind  gets BAD_KIND and does nothing
+ * A record that is refused does not stop those after it. The number is then 0, also if all were refused; with no
+ * record at all it is 0, and the state is as it was.
+ *
+ *   uint8_t records[2 * PRESSCURLEW_RECORD_BYTES], answers[2];
+ *   uint32_t now = radio_clock();
+ *   presscurlew_put_offer(records, 7, 0, 400, 100000, now);
+ *   presscurlew_put_offer(records + PRESSCURLEW_RECORD_BYTES, 8, 1, 300, 60000, now);
+ *   presscurlew_burst_turn turn = presscurlew_burst(state, records, sizeof records, answers, sizeof answers);
+ *   state = turn.state;
+ *   for (unsigned i = 0; i < 2; i++)
+ *       if (answers[i] != 0)
+ *           report(i, answers[i]);
+ *
+ * Refusals of the whole burst, in this order, each with the state as it was and no answer written: TORN_LOG if
+ * `bytes` is not a multiple of 16; NO_ROOM if `room` is less than bytes / 16.
+ * Refusals of a record of kind 2: those of presscurlew_offer. A state that is not sound does not refuse the burst:
+ * each record of kind 2 gets NO_STATE.
+ *
+ * What the caller answers for, as with any C call: the two counts are those of the bytes behind the pointers, and
+ * no answer byte is a byte of the records. With a count of 0 its pointer may be NULL.
+ */
+presscurlew_burst_turn presscurlew_burst(presscurlew_state state, const uint8_t *records, size_t bytes,
+                                         uint8_t *answers, size_t room);
+
+/* `width` bytes of a number, the lowest first. */
+static inline void presscurlew_put_number(uint8_t *at, uint32_t number, unsigned width) {
+    for (unsigned i = 0; i < width; i++)
+        at[i] = (uint8_t)(number >> 8 * i);
+}
+
+/*
+ * Puts an offer, with the numbers in the order of presscurlew_offer, into the 16 bytes at `record`. A priority above
+ * 255 is put as 255 and an on-time above 65,535 as 65,535, which is all that their bytes hold: no profile allows
+ * any of these, so that the record is refused just as the single call is.
+ */
+static inline void presscurlew_put_offer(uint8_t *record, uint32_t id, uint32_t priority, uint32_t ontime,
+                                         uint32_t lifetime, uint32_t stamp) {
+    record[0] = PRESSCURLEW_RECORD_OFFER;
+    presscurlew_put_number(record + 1, priority < 255 ? priority : 255, 1);
+    presscurlew_put_number(record + 2, ontime < 65535 ? ontime : 65535, 2);
+    presscurlew_put_number(record + 4, lifetime, 4);
+    presscurlew_put_number(record + 8, id, 4);
+    presscurlew_put_number(record + 12, stamp, 4);
+}
 
 /*
  * Whether a packet may go, and which. The clock moves, and every expired packet of all queues is removed and

@@ -54,6 +54,9 @@ static void wholes(void) {
     SIZE(turn);
     FIELD(turn, state);
     FIELD(turn, reply);
+    SIZE(burst_turn);
+    FIELD(burst_turn, state);
+    FIELD(burst_turn, number);
 }
 
 int main(void) {

@@ -3,7 +3,8 @@
  * sends the map of the site in pieces, over 3 s in which the channel gets crowded for a while.
  *
  * The radio is played: its clock is `now`, which wraps on the way, and hear_channel makes up what it probes.
- * All else is what a host does: keep the state, sample, offer, poll, and wait as long as CLOSED says.
+ * All else is what a host does: keep the state, sample, offer, poll, and wait as long as CLOSED says. What comes
+ * together, warnings among it, is offered together, as a burst.
  */
 #include <inttypes.h>
 #include <stdio.h>
@@ -29,10 +30,16 @@ static const message messages[] = {
 
 enum { WARNING, STATUS, MAP };
 
+/* The most messages that come in a tick: a warning, a status and six pieces of the map. */
+enum { BURST = 8 };
+
 typedef struct host {
     presscurlew_state state; /* handed to each call, and replaced by what the call hands back */
     uint32_t now;            /* the radio's clock */
     uint32_t quiet_until;    /* no use to poll before: the gate said CLOSED */
+    unsigned ready;          /* so many messages are to be offered next: */
+    uint8_t records[BURST][PRESSCURLEW_RECORD_BYTES];
+    uint32_t ids[BURST];
     uint32_t offered, refused, air_time;
 } host;
 
@@ -41,7 +48,7 @@ static uint32_t since_start_ms(const host *h) { return (h->now - START) / 1000; 
 static const char *refusal_name(uint64_t number) {
     static const char *const names[] = {"",           "BAD-PROFILE", "CLOCK-BACK",   "CLOCK-END",  "BAD-SAMPLE",
                                         "BAD-PRIORITY", "BAD-ON-TIME", "BAD-LIFETIME", "QUEUE-FULL", "NO-STATE",
-                                        "",             "SPENT"};
+                                        "BAD-KIND",     "SPENT"};
     return number < sizeof names / sizeof names[0] ? names[number] : "?";
 }
 
@@ -66,18 +73,32 @@ static void sample(host *h, unsigned busy) {
         printf("%5" PRIu32 " ms  level %" PRIu32 "\n", since_start_ms(h), h->state.tuning.level);
 }
 
-static void offer(host *h, int kind) {
+/* Makes a message ready to be offered. There is room for all that comes in a tick. */
+static void prepare(host *h, int kind) {
     const message *m = &messages[kind];
     /* The host finds the message by the identifier when it is sent: the kind stands in its last two bits. */
     uint32_t id = h->offered++ << 2 | (uint32_t)kind;
-    presscurlew_turn turn = presscurlew_offer(h->state, id, m->priority, m->ontime, m->lifetime, h->now);
+
+    presscurlew_put_offer(h->records[h->ready], id, m->priority, m->ontime, m->lifetime, h->now);
+    h->ids[h->ready++] = id;
+}
+
+/* Offers all that is ready in one call. */
+static void offer_burst(host *h) {
+    uint8_t answers[BURST];
+    /* The records are whole and each has its answer byte, so that the burst itself is not refused. */
+    presscurlew_burst_turn turn =
+        presscurlew_burst(h->state, h->records[0], h->ready * sizeof h->records[0], answers, sizeof answers);
 
     h->state = turn.state;
-    if (turn.reply.kind == PRESSCURLEW_REFUSED) {
+    for (unsigned i = 0; i < h->ready; i++) {
+        if (answers[i] == 0)
+            continue;
         h->refused++;
-        printf("%5" PRIu32 " ms  %s %" PRIu32 " refused: %s\n", since_start_ms(h), m->name, id >> 2,
-               refusal_name(turn.reply.number));
+        printf("%5" PRIu32 " ms  %s %" PRIu32 " refused: %s\n", since_start_ms(h), messages[h->ids[i] & 3].name,
+               h->ids[i] >> 2, refusal_name(answers[i]));
     }
+    h->ready = 0;
 }
 
 /* Puts a packet on air. */
@@ -114,12 +135,14 @@ static void tick(host *h, unsigned t) {
     if (t % 10 == 0)
         sample(h, t < 50 ? 200 : t < 150 ? 700 : 100);
     if (t % 50 == 2)
-        offer(h, WARNING);
+        prepare(h, WARNING);
     if (t % 20 == 1)
-        offer(h, STATUS);
+        prepare(h, STATUS);
     if (t == 55)
         for (int piece = 0; piece < 6; piece++)
-            offer(h, MAP);
+            prepare(h, MAP);
+    if (h->ready > 0)
+        offer_burst(h);
     if (has_come(h, h->quiet_until))
         poll(h);
     h->now += TICK_US;

@@ -1,4 +1,5 @@
 -- What a run of a log on literal bytes opens, by name.
+use Rattle.rules.specs.Refusals.{firstOf}
 use Rattle.packing.specs.Packing.{filled, allAre, padded}
 use Rattle.model.proofs.Computing.{of-runs}
 use Rattle.queue.specs.Layout.{packed}
@@ -6,6 +7,8 @@ use Rattle.gate.specs.Layout.{soundState, callOn, makeState}
 use Rattle.calllog.specs.Records.{twoAt, fourAt, recordAt, askedBy}
 use Rattle.calllog.specs.Steps.{stepOn}
 use Rattle.calllog.specs.Lines.{digitsIn, decimal, lineOf, lastLine}
+use Rattle.calllog.specs.Bursts.{offeredBy, answerByte, offeredTo, answersTo}
+use Rattle.calllog.specs.Bursts.{burstNumber, burstState, burstAnswers}
 use Rattle.calllog.specs.Text.{reachedFrom, linesFrom, outputFrom}
 
 unfoldable pub of-states : Type 0
@@ -15,3 +18,7 @@ of-states = Unit {0}
 unfoldable pub of-logs : Type 0
 unfolding outputFrom reachedFrom linesFrom lineOf lastLine decimal digitsIn stepOn askedBy recordAt twoAt fourAt
 of-logs = Unit {0}
+
+unfoldable pub of-bursts : Type 0
+unfolding firstOf burstNumber burstState burstAnswers offeredBy answerByte offeredTo answersTo
+of-bursts = Unit {0}

@@ -5,16 +5,17 @@ use mathlib.Core.List.{List, [], _∷_, _++_, map}
 use Rattle.model.specs.declared.Answer.{Answer}
 use Rattle.model.specs.declared.Answer.the-variants.{Ready, Taken, Sent, Idle, Closed, Refused}
 use Rattle.model.specs.declared.Packet.{Packet}
-use Rattle.model.specs.Calls.{count, offer, poll}
+use Rattle.model.specs.Calls.{Call, count, offer, poll}
 use Rattle.gate.specs.declared.State.{State}
 use Rattle.gate.specs.declared.Outcome.{Outcome}
-use Rattle.gate.specs.Layout.{outcome, makeState}
+use Rattle.gate.specs.Layout.{outcome, callOn, makeState}
 use Rattle.calllog.specs.declared.Record.{Record}
 use Rattle.calllog.specs.Records.{twoAt, fourAt, recordAt, makes, calls, unknown, askedBy}
 use Rattle.calllog.specs.Steps.{atStart, stepOn}
 use Rattle.calllog.specs.Lines.{ascii, digitsIn, decimal, lineOf, lastLine}
 use Rattle.calllog.specs.Text.{outputOf, recordsDone, blockRoom}
-use Rattle.calllog.proofs.Computing.{of-states, of-logs}
+use Rattle.calllog.specs.Bursts.{burstNumber, burstState, burstAnswers}
+use Rattle.calllog.proofs.Computing.{of-states, of-logs, of-bursts}
 
 -- "kind (1), priority (1), on-time (2), lifetime (4), identifier (4), stamp (4)", low byte first, from any place
 sixteen : List ℕ
@@ -109,3 +110,55 @@ done :
     ≡ 0 ∷ 0 ∷ 1 ∷ 2 ∷ 4095 ∷ 4096 ∷ 4096 ∷ []
 unfolding recordsDone
 done = refl
+
+-- a burst's numbers: 13 before 12, and neither where there is no record
+burst-numbers :
+    burstNumber 15 0
+    ∷ burstNumber 17 0
+    ∷ burstNumber 16 0
+    ∷ burstNumber 32 1
+    ∷ burstNumber 32 2
+    ∷ burstNumber 32 9
+    ∷ burstNumber 0 0
+    ∷ []
+    ≡ 13 ∷ 13 ∷ 12 ∷ 12 ∷ 0 ∷ 0 ∷ 0 ∷ []
+unfolding of-bursts
+burst-numbers = refl
+
+-- a fresh gate of profile 2 at stamp 5; an offer at 9, a poll's record, whose stamp 255 is not looked at, an offer at 8 and one of
+-- priority 4 at 10
+fresh2 : State
+fresh2 = makeState (record { profile = 2; stamp = 5 }) .state
+
+four-records : List ℕ
+four-records =
+    (2 ∷ 1 ∷ 144 ∷ 1 ∷ 232 ∷ 3 ∷ 0 ∷ 0 ∷ 7 ∷ 0 ∷ 0 ∷ 0 ∷ 9 ∷ 0 ∷ 0 ∷ 0 ∷ [])
+    ++ (3 ∷ 0 ∷ 0 ∷ 0 ∷ 0 ∷ 0 ∷ 0 ∷ 0 ∷ 0 ∷ 0 ∷ 0 ∷ 0 ∷ 255 ∷ 0 ∷ 0 ∷ 0 ∷ [])
+    ++ (2 ∷ 1 ∷ 144 ∷ 1 ∷ 232 ∷ 3 ∷ 0 ∷ 0 ∷ 8 ∷ 0 ∷ 0 ∷ 0 ∷ 8 ∷ 0 ∷ 0 ∷ 0 ∷ [])
+    ++ (2 ∷ 4 ∷ 144 ∷ 1 ∷ 232 ∷ 3 ∷ 0 ∷ 0 ∷ 9 ∷ 0 ∷ 0 ∷ 0 ∷ 10 ∷ 0 ∷ 0 ∷ 0 ∷ [])
+
+first-offer : Call
+first-offer = offer 9 (record { id = 7; priority = 1; ontime = 400; lifetime = 1000 })
+
+-- "0 for TAKEN, else the refusal number; a record of another kind gets 10 and does nothing"; "Answer bytes past the last record are
+-- not written."
+burst-answers : burstAnswers fresh2 four-records (77 ∷ 78 ∷ 79 ∷ 80 ∷ 81 ∷ 82 ∷ []) ≡ 0 ∷ 10 ∷ 2 ∷ 5 ∷ 81 ∷ 82 ∷ []
+unfolding of-states of-logs of-bursts fresh2 four-records
+burst-answers = refl
+
+burst-state : burstState fresh2 four-records (77 ∷ 78 ∷ 79 ∷ 80 ∷ []) ≡ callOn fresh2 first-offer .state
+unfolding of-states of-logs of-bursts fresh2 four-records first-offer
+burst-state = refl
+
+-- "Both leave state and answers unchanged."
+burst-refused :
+    (burstState fresh2 four-records (77 ∷ 78 ∷ 79 ∷ []) ≡ fresh2)
+    × (burstAnswers fresh2 four-records (77 ∷ 78 ∷ 79 ∷ []) ≡ 77 ∷ 78 ∷ 79 ∷ [])
+    × (burstAnswers fresh2 (0 ∷ four-records) (77 ∷ 78 ∷ 79 ∷ 80 ∷ []) ≡ 77 ∷ 78 ∷ 79 ∷ 80 ∷ [])
+unfolding of-states of-logs of-bursts fresh2 four-records
+burst-refused = (refl, refl, refl)
+
+-- "an unsound one shows only as 9 at each record of kind 2"
+burst-unsound : burstAnswers atStart four-records (0 ∷ 0 ∷ 0 ∷ 0 ∷ []) ≡ 9 ∷ 10 ∷ 9 ∷ 9 ∷ []
+unfolding of-states of-logs of-bursts four-records
+burst-unsound = refl

@@ -4,7 +4,10 @@
 //! `examples/c/roadworks.c` is the same host in C, and both must write the same.
 //!
 //! The radio is played: its clock is `now`, which wraps on the way, and `hear_channel` makes up what it probes.
-//! All else is what a host does: sample, offer, poll, and wait as long as `Closed` says.
+//! All else is what a host does: sample, offer, poll, and wait as long as `Closed` says. What comes together, warnings
+//! among it, is offered together, as a burst.
+
+use std::mem;
 
 use presscurlew::{Answer, Counts, Gate, Offer, Packet, Refusal};
 
@@ -46,12 +49,19 @@ const MESSAGES: [Message; 3] = [
     },
 ];
 
+/// The message of an identifier.
+fn message(id: u32) -> Message {
+    MESSAGES[id as usize & 3]
+}
+
 struct Host {
     gate: Gate,
     /// The radio's clock.
     now: u32,
     /// No use to poll before: the gate said CLOSED.
     quiet_until: u32,
+    /// The messages to offer next.
+    ready: Vec<(Offer, u32)>,
     offered: u32,
     refused: u32,
     air_time: u32,
@@ -74,6 +84,7 @@ impl Host {
             gate: Gate::new(1, START)?,
             now: START,
             quiet_until: START,
+            ready: Vec::new(),
             offered: 0,
             refused: 0,
             air_time: 0,
@@ -98,25 +109,34 @@ impl Host {
         Ok(())
     }
 
-    fn offer(&mut self, kind: usize) {
+    /// Makes a message ready to be offered.
+    fn prepare(&mut self, kind: usize) {
         let Message {
-            name,
             priority,
             ontime,
             lifetime,
+            ..
         } = MESSAGES[kind];
-        let number = self.offered;
         let offer = Offer {
             // The host finds the message by the identifier when it is sent: the kind stands in its last two bits.
-            id: number << 2 | kind as u32,
+            id: self.offered << 2 | kind as u32,
             priority,
             ontime,
             lifetime,
         };
         self.offered += 1;
-        if let Err(refusal) = self.gate.offer(offer, self.now) {
-            self.refused += 1;
-            self.tell(&format!("{name} {number} refused: {}", refusal.name()));
+        self.ready.push((offer, self.now));
+    }
+
+    /// Offers all that is ready in one call.
+    fn offer_burst(&mut self) {
+        let answers = self.gate.offer_burst(&self.ready);
+        for ((offer, _), answer) in mem::take(&mut self.ready).into_iter().zip(answers) {
+            if let Err(refusal) = answer {
+                self.refused += 1;
+                let (name, number) = (message(offer.id).name, offer.id >> 2);
+                self.tell(&format!("{name} {number} refused: {}", refusal.name()));
+            }
         }
     }
 
@@ -124,8 +144,7 @@ impl Host {
     fn transmit(&mut self, packet: Packet) {
         self.air_time += packet.ontime;
         let waited = self.gate.state().clock.time - packet.arrival;
-        let name = MESSAGES[packet.id as usize & 3].name;
-        let number = packet.id >> 2;
+        let (name, number) = (message(packet.id).name, packet.id >> 2);
         self.tell(&format!(
             "{name} {number} sent, it waited {} ms",
             waited / 1_000
@@ -156,13 +175,16 @@ impl Host {
             })?;
         }
         if t % 50 == 2 {
-            self.offer(WARNING);
+            self.prepare(WARNING);
         }
         if t % 20 == 1 {
-            self.offer(STATUS);
+            self.prepare(STATUS);
         }
         if t == 55 {
-            (0..6).for_each(|_| self.offer(MAP));
+            (0..6).for_each(|_| self.prepare(MAP));
+        }
+        if !self.ready.is_empty() {
+            self.offer_burst();
         }
         if self.has_come(self.quiet_until) {
             self.poll()?;

@@ -1,4 +1,4 @@
-//! The archive beside the reference, on states and calls that libFuzzer makes up.
+//! The archive beside the reference, on states, calls and bursts that libFuzzer makes up.
 //!
 //! The input is read number by number. Most numbers are picked from those where a rule turns; any other can come
 //! too. An input that is used up gives zeros. A difference panics, which libFuzzer reports with the input.
@@ -8,9 +8,10 @@
 mod help;
 
 use help::{
-    hold, hold_no_state, raw, Call, ACCEPTED_MOST, EDGE_COUNTS, EDGE_LIFETIMES, EDGE_ONTIMES,
-    EDGE_PRIORITIES, EDGE_STEPS, TIME_END,
+    hold, hold_burst, hold_no_state, hold_no_state_burst, raw, Call, ACCEPTED_MOST, EDGE_COUNTS,
+    EDGE_LIFETIMES, EDGE_ONTIMES, EDGE_PRIORITIES, EDGE_STEPS, TIME_END,
 };
+use reference::log::{Record, RECORD_BYTES};
 use reference::state::{sound, Packet, State};
 
 /// What is left of the input.
@@ -130,13 +131,48 @@ impl Input<'_> {
         (0..length).map(word).collect()
     }
 
-    fn call(&mut self, last: u32) -> Call {
+    fn stamp_after(&mut self, last: u32) -> u32 {
         // Waits, and those after the longest on-time.
         let turns = [
             0, 50_000, 50_500, 60_000, 100_000, 101_000, 1_000_000, 1_000_500, 1_001_000,
         ];
         let step = self.of(&EDGE_STEPS) ^ self.of(&turns);
-        let stamp = last.wrapping_add(step);
+        last.wrapping_add(step)
+    }
+
+    /// A record of a burst: mostly an offer, its numbers as far as they fit.
+    fn record(&mut self, last: u32) -> Record {
+        let kind = match self.byte() {
+            kind @ 240.. => kind % 5,
+            _ => 2,
+        };
+        Record {
+            kind,
+            priority: self.of(&EDGE_PRIORITIES) as u8,
+            ontime: self.of(&EDGE_ONTIMES) as u16,
+            lifetime: self.of(&EDGE_LIFETIMES),
+            id: u32::from(self.byte()),
+            stamp: self.stamp_after(last),
+        }
+    }
+
+    /// The bytes of a burst, and its room for answers: mostly whole records and enough.
+    fn burst(&mut self, last: u32) -> (Vec<u8>, usize) {
+        let mut records = vec![];
+        for _ in 0..self.byte() % 12 {
+            records.extend(self.record(last).to_bytes());
+        }
+        let room = match self.byte() {
+            byte @ 200.. => usize::from(byte) % 12,
+            _ => records.len() / RECORD_BYTES,
+        };
+        let torn = usize::from(self.byte().saturating_sub(240));
+        records.truncate(records.len().saturating_sub(torn));
+        (records, room)
+    }
+
+    fn call(&mut self, last: u32) -> Call {
+        let stamp = self.stamp_after(last);
         match self.byte() % 4 {
             0 => Call::SampleWords {
                 words: self.words(),
@@ -158,7 +194,7 @@ impl Input<'_> {
     }
 }
 
-/// One call on a state with a flag that the reference has no word for.
+/// A call and a burst on a state with a flag that the reference has no word for.
 fn try_flags(input: &mut Input, state: &State) {
     let mut bent = raw(state);
     let flag = input.of(&[2, 3, 256, u32::MAX]).max(2);
@@ -168,6 +204,7 @@ fn try_flags(input: &mut Input, state: &State) {
         _ => bent.last.admitted = flag,
     }
     hold_no_state(&bent, &input.call(state.stamp), &"flag");
+    hold_no_state_burst(&bent, state.stamp, &"flag");
 }
 
 /// Follows the calls of an input from its state on.
@@ -176,6 +213,11 @@ fn follow(bytes: &[u8]) {
     let mut state = input.state();
     try_flags(&mut input, &state);
     while !input.bytes.is_empty() {
+        if input.byte() % 4 == 3 {
+            let (records, room) = input.burst(state.stamp);
+            state = hold_burst(&state, &records, room, &"fuzz").0;
+            continue;
+        }
         let call = input.call(state.stamp);
         if sound(&state) {
             state = hold(&state, &call, &"fuzz").0;

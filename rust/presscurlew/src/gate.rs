@@ -85,6 +85,29 @@ impl fmt::Display for Answer {
     }
 }
 
+impl Offer {
+    /// The offer at a stamp as a record of a burst ([`sys::burst`]): kind 2, priority (1 byte), on-time (2), lifetime (4),
+    /// identifier (4), stamp (4), little-endian. [`Gate::offer_burst`] does it by itself.
+    ///
+    /// A priority above 255 is written as 255 and an on-time above 65,535 as 65,535, which is all that their bytes hold.
+    #[inline]
+    pub fn record(self, stamp: u32) -> [u8; sys::RECORD_BYTES] {
+        // The record is refused just as the single offer is: no priority above 3 and no on-time above 4,000 is allowed in
+        // any profile, so that the number written gets 5 or 6 exactly if the one given does; and no other refusal looks
+        // at either number before 5 and 6 are settled.
+        let priority = u8::try_from(self.priority).unwrap_or(u8::MAX);
+        let ontime = u16::try_from(self.ontime).unwrap_or(u16::MAX);
+        let mut record = [0; sys::RECORD_BYTES];
+        record[0] = sys::RECORD_OFFER;
+        record[1] = priority;
+        record[2..4].copy_from_slice(&ontime.to_le_bytes());
+        record[4..8].copy_from_slice(&self.lifetime.to_le_bytes());
+        record[8..12].copy_from_slice(&self.id.to_le_bytes());
+        record[12..16].copy_from_slice(&stamp.to_le_bytes());
+        record
+    }
+}
+
 /// Why a call was refused. A refused call changes nothing, clock and counts included.
 #[derive(Clone, Copy, Debug, PartialEq, Eq, Hash)]
 pub enum Refusal {
@@ -106,12 +129,18 @@ pub enum Refusal {
     QueueFull = 8,
     /// The state is not sound. A [`Gate`] never answers this; the calls in [`sys`] may.
     NoState = 9,
-    /// The gate has accepted 10^15 offers. (10 is a refusal of the log program alone.)
+    /// The kind of a burst's record is not 2. A [`Gate`] never answers this; [`sys::burst`] may, of one record.
+    BadKind = 10,
+    /// The gate has accepted 10^15 offers.
     Spent = 11,
+    /// A burst has fewer answer bytes than records. A [`Gate`] never answers this; [`sys::burst`] may.
+    NoRoom = 12,
+    /// The bytes of a burst's records are not a multiple of 16. A [`Gate`] never answers this; [`sys::burst`] may.
+    TornLog = 13,
 }
 
 /// The refusals in the order of their numbers.
-const REFUSALS: [Refusal; 10] = [
+const REFUSALS: [Refusal; 13] = [
     Refusal::BadProfile,
     Refusal::ClockBack,
     Refusal::ClockEnd,
@@ -121,11 +150,14 @@ const REFUSALS: [Refusal; 10] = [
     Refusal::BadLifetime,
     Refusal::QueueFull,
     Refusal::NoState,
+    Refusal::BadKind,
     Refusal::Spent,
+    Refusal::NoRoom,
+    Refusal::TornLog,
 ];
 
 impl Refusal {
-    /// The refusal's number, 1 to 9 or 11, as a C caller sees it.
+    /// The refusal's number, 1 to 13, as a C caller sees it.
     pub const fn number(self) -> u32 {
         self as u32
     }
@@ -154,7 +186,10 @@ impl Refusal {
             Refusal::BadLifetime => "BAD-LIFETIME",
             Refusal::QueueFull => "QUEUE-FULL",
             Refusal::NoState => "NO-STATE",
+            Refusal::BadKind => "BAD-KIND",
             Refusal::Spent => "SPENT",
+            Refusal::NoRoom => "NO-ROOM",
+            Refusal::TornLog => "TORN-LOG",
         }
     }
 
@@ -169,7 +204,10 @@ impl Refusal {
             Refusal::BadLifetime => "the lifetime is 0 or above 60,000,000",
             Refusal::QueueFull => "5 packets of this priority wait",
             Refusal::NoState => "the state is not sound",
+            Refusal::BadKind => "the record is no offer",
             Refusal::Spent => "10^15 offers were accepted already",
+            Refusal::NoRoom => "there are fewer answer bytes than records",
+            Refusal::TornLog => "the bytes are not a multiple of 16",
         }
     }
 }
@@ -191,6 +229,16 @@ fn accepted(reply: sys::Reply) -> Result<sys::Reply, Refusal> {
     // The contracts give no number but those of the refusals.
     let refusal = number.and_then(Refusal::from_number);
     Err(refusal.unwrap_or_else(|| unreachable!("the archive answered {reply:?}")))
+}
+
+/// What the answer byte of a burst's record says.
+fn taken(answer: u8) -> Result<(), Refusal> {
+    if answer == 0 {
+        return Ok(());
+    }
+    let refusal = Refusal::from_number(u32::from(answer));
+    // The contract gives no byte but 0 and the numbers of the refusals.
+    Err(refusal.unwrap_or_else(|| unreachable!("the archive answered {answer}")))
 }
 
 impl Gate {
@@ -243,6 +291,35 @@ impl Gate {
             self.state, id, priority, ontime, lifetime, stamp,
         ))?;
         Ok(())
+    }
+
+    /// Packets to send, each with its stamp, in one call: exactly [`Gate::offer`] of one after the other, and faster. There
+    /// is an answer for each, in their order, and one that is refused does not stop those after it.
+    ///
+    /// ```
+    /// use presscurlew::{Gate, Offer, Refusal};
+    ///
+    /// let mut gate = Gate::new(2, 0)?;
+    /// let warning = Offer { id: 1, priority: 0, ontime: 400, lifetime: 100_000 };
+    /// let too_long = Offer { id: 2, ontime: 501, ..warning };
+    /// let map = Offer { id: 3, priority: 3, ..warning };
+    /// let answers = gate.offer_burst(&[(warning, 10), (too_long, 10), (map, 20)]);
+    /// assert_eq!(answers, [Ok(()), Err(Refusal::BadOnTime), Ok(())]);
+    /// assert_eq!(gate.counts().accepted, 2);
+    /// # Ok::<(), Refusal>(())
+    /// ```
+    ///
+    /// # Errors
+    ///
+    /// Each answer has those of [`Gate::offer`].
+    pub fn offer_burst(&mut self, offers: &[(Offer, u32)]) -> Vec<Result<(), Refusal>> {
+        let records: Vec<_> = offers.iter().map(|(o, stamp)| o.record(*stamp)).collect();
+        let mut answers = vec![0; offers.len()];
+        let turn = sys::burst(self.state, records.as_flattened(), &mut answers);
+        // Whole records and a byte for each: such a burst is not refused.
+        assert_eq!(turn.number, 0, "the archive refused a whole burst");
+        self.state = turn.state;
+        answers.into_iter().map(taken).collect()
     }
 
     /// Whether a packet may go, and which: the oldest of the lowest-numbered queue that has one.

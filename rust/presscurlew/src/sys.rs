@@ -2,7 +2,8 @@
 //!
 //! The gate's calls take a [`State`] by value and hand back the next one in a [`Turn`]. They are for hosts
 //! that store states themselves, and for tests; [`crate::Gate`] keeps its state safe. The state of each call
-//! goes into the next one, unchanged and once: two calls on copies of one state are two gates.
+//! goes into the next one, unchanged and once: two calls on copies of one state are two gates. A burst is many offers
+//! in one call, as bytes.
 //!
 //! The rules' answers have their refusal number first, 0 for none. A refusal's other numbers are 0.
 //!
@@ -206,7 +207,22 @@ pub struct Turn {
     pub reply: Reply,
 }
 
-// Safe to call, but for the one that takes a pointer: any numbers and any state at all are answered.
+/// What a burst hands back.
+#[repr(C)]
+#[derive(Clone, Copy, Debug, Default, PartialEq, Eq, Hash)]
+pub struct BurstTurn {
+    /// The next state.
+    pub state: State,
+    /// 0, or 13 or 12 if the whole burst was refused. A record's own refusal stands in its answer byte.
+    pub number: u32,
+}
+
+/// The bytes of a record of a burst.
+pub const RECORD_BYTES: usize = 16;
+/// The kind of a record that is an offer, its first byte.
+pub const RECORD_OFFER: u8 = 2;
+
+// Safe to call, but for those that take pointers: any numbers and any state at all are answered.
 #[allow(unsafe_code)]
 unsafe extern "C" {
     /// A fresh state.
@@ -237,6 +253,20 @@ unsafe extern "C" {
         stamp: u32,
     ) -> Turn;
 
+    /// Many offers in one call; [`burst`] is the same of slices.
+    ///
+    /// # Safety
+    ///
+    /// `records` points to `bytes` bytes that can be read, and `answers` to `room` bytes that can be written, none of
+    /// which is a byte of the records. With a count of 0 its pointer may be null.
+    pub fn presscurlew_burst(
+        state: State,
+        records: *const u8,
+        bytes: usize,
+        answers: *mut u8,
+        room: usize,
+    ) -> BurstTurn;
+
     /// Whether a packet may go, and which.
     pub safe fn presscurlew_poll(state: State, stamp: u32) -> Turn;
 }
@@ -246,6 +276,28 @@ unsafe extern "C" {
 pub fn sample_words(state: State, words: &[u64], stamp: u32) -> Turn {
     // SAFETY: the slice has `words.len()` words, and the archive only reads them.
     unsafe { presscurlew_sample_words(state, words.as_ptr(), words.len(), stamp) }
+}
+
+/// Many offers in one call, of slices: 16 bytes a record, as [`crate::Offer::record`] gives them, and one byte for each
+/// answer, 0 for TAKEN or the number of the refusal. Bytes past the last answer are not written.
+///
+/// ```
+/// use presscurlew::{sys, Offer};
+///
+/// let fresh = sys::presscurlew_make(1, 0).state;
+/// let offer = Offer { id: 7, priority: 1, ontime: 400, lifetime: 60_000 };
+/// let bad = Offer { priority: 4, ..offer };
+/// let records = [offer.record(100), bad.record(100)];
+/// let mut answers = [255; 3];
+/// let turn = sys::burst(fresh, records.as_flattened(), &mut answers);
+/// assert_eq!((turn.number, answers), (0, [0, 5, 255]));
+/// assert_eq!(turn.state, sys::presscurlew_offer(fresh, 7, 1, 400, 60_000, 100).state);
+/// ```
+#[allow(unsafe_code)]
+pub fn burst(state: State, records: &[u8], answers: &mut [u8]) -> BurstTurn {
+    let (bytes, room) = (records.len(), answers.len());
+    // SAFETY: the slices have so many bytes, and one that can be written lies apart from all others.
+    unsafe { presscurlew_burst(state, records.as_ptr(), bytes, answers.as_mut_ptr(), room) }
 }
 
 #[cfg(test)]
@@ -261,5 +313,22 @@ mod tests {
         let turn = unsafe { presscurlew_sample_words(fresh, ptr::null(), 0, 0) };
         assert_eq!((turn.reply.kind, turn.reply.number), (REFUSED, 4));
         assert_eq!(turn.state, fresh);
+    }
+
+    #[test]
+    fn no_records_and_no_answers_may_be_null_pointers() {
+        let fresh = presscurlew_make(1, 0).state;
+        let record = [RECORD_OFFER; RECORD_BYTES];
+        for (bytes, number) in [(0, 0), (15, 13), (16, 12)] {
+            let records = if bytes == 0 {
+                ptr::null()
+            } else {
+                record.as_ptr()
+            };
+            // SAFETY: a null pointer has a count of 0, and the record has 16 bytes.
+            let turn = unsafe { presscurlew_burst(fresh, records, bytes, ptr::null_mut(), 0) };
+            let state = fresh;
+            assert_eq!(turn, BurstTurn { state, number });
+        }
     }
 }

@@ -1,8 +1,8 @@
 //! The second, independent program of the gate.
 //!
-//! It is document 01 written out plainly, with requests W-201 and W-202 of
-//! document 02, to be read beside those papers and run beside the product. It
-//! shares no code and no table with the product.
+//! It is document 01 written out plainly, with requests W-201, W-202 and W-204
+//! of document 02, to be read beside those papers and run beside the product.
+//! It shares no code and no table with the product.
 //!
 //! - [`rules`]: the rules on plain numbers, and each profile's constants
 //! - [`ccalls`]: the four calls for the radio maker's C stack
@@ -11,6 +11,7 @@
 //! - [`gate`]: make, sample, offer and poll
 //! - [`book`]: the run's book, and the check of demand 3 over a run
 //! - [`log`]: the call log and its program
+//! - [`burst`]: many offers in one call
 //! - [`rng`]: a small number generator for tests
 //! - [`miscounts`]: counts that don't add up, for tests
 //!
@@ -21,6 +22,7 @@
 #![deny(missing_docs)]
 
 pub mod book;
+pub mod burst;
 pub mod calls;
 pub mod ccalls;
 pub mod gate;

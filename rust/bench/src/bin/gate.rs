@@ -2,18 +2,18 @@
 //! the soundness test at every call, (b) in place with none. The four run the same row of calls in turn, and must end in
 //! the same state.
 
+#[path = "../places.rs"]
+mod places;
 #[path = "../plain.rs"]
 #[allow(dead_code)]
 mod plain;
 
-use std::hint::black_box;
-use std::time::Instant;
-
+use places::{median, rounds, Call, Run, PLACES};
 use plain::{by_value, Answer, Packet, Queue, State};
 use presscurlew::sys;
 
 /// Rounds of each side: as many at each place of the stack.
-const ROUNDS: usize = 13 * PLACES.len();
+const ROUNDS: usize = 13 * PLACES;
 const CALLS: usize = 3000;
 
 #[derive(Clone, Copy)]
@@ -27,7 +27,7 @@ extern "C" {
     fn presscurlew_run_row(state: State, row: *const u32, numbers: usize) -> Tally;
 }
 
-fn rattle(state: State, row: &[[u32; 6]]) -> Tally {
+fn rattle(state: State, row: &[Call]) -> Tally {
     let numbers = row.as_flattened();
     // SAFETY: the archive reads `numbers.len()` numbers behind the pointer and keeps neither.
     unsafe { presscurlew_run_row(state, numbers.as_ptr(), numbers.len()) }
@@ -73,7 +73,7 @@ fn state(s: sys::State) -> State {
 }
 
 /// One C call a turn, the state by value there and back. It starts from a fresh state, as all do.
-fn by_c_calls(start: State, row: &[[u32; 6]]) -> Tally {
+fn by_c_calls(start: State, row: &[Call]) -> Tally {
     let mut now = sys::presscurlew_make(start.profile, start.stamp).state;
     let mut sent = 0;
     for &[kind, a, b, c, d, stamp] in row {
@@ -97,7 +97,7 @@ fn count(sent: &mut u64, answer: Answer) {
     }
 }
 
-fn valued(mut state: State, row: &[[u32; 6]]) -> Tally {
+fn valued(mut state: State, row: &[Call]) -> Tally {
     let mut sent = 0;
     for &[kind, a, b, c, d, stamp] in row {
         let (next, answer) = match kind {
@@ -111,7 +111,7 @@ fn valued(mut state: State, row: &[[u32; 6]]) -> Tally {
     Tally { state, sent }
 }
 
-fn in_place(mut state: State, row: &[[u32; 6]]) -> Tally {
+fn in_place(mut state: State, row: &[Call]) -> Tally {
     let mut sent = 0;
     for &[kind, a, b, c, d, stamp] in row {
         let answer = match kind {
@@ -169,7 +169,7 @@ fn sampled(i: u32) -> [u32; 5] {
     }
 }
 
-fn row(mix: Mix, step: u32) -> Vec<[u32; 6]> {
+fn row(mix: Mix, step: u32) -> Vec<Call> {
     (0..CALLS as u32)
         .map(|i| {
             let [kind, a, b, c, d] = mix(i);
@@ -178,58 +178,18 @@ fn row(mix: Mix, step: u32) -> Vec<[u32; 6]> {
         .collect()
 }
 
-type Run = fn(State, &[[u32; 6]]) -> Tally;
-
-const SIDES: [Run; 4] = [rattle, by_c_calls, valued, in_place];
-
-/// Times one round, `N` bytes further down the stack. Copies of a state take longer where they straddle cache lines, so
-/// that a process whose stack lies well for one side would favour it.
-#[inline(never)]
-fn timed<const N: usize>(run: Run, start: State, row: &[[u32; 6]]) -> f64 {
-    let mut room = [0u8; N];
-    black_box(&mut room);
-    let began = Instant::now();
-    black_box(run(black_box(start), black_box(row)));
-    began.elapsed().as_nanos() as f64 / row.len() as f64
-}
-
-type Timed = fn(Run, State, &[[u32; 6]]) -> f64;
-
-/// Places over a page of the stack, four at each offset in a cache line that a stack can have.
-const PLACES: [Timed; 16] = [
-    timed::<16>,
-    timed::<288>,
-    timed::<560>,
-    timed::<832>,
-    timed::<1104>,
-    timed::<1376>,
-    timed::<1648>,
-    timed::<1920>,
-    timed::<2192>,
-    timed::<2464>,
-    timed::<2736>,
-    timed::<3008>,
-    timed::<3280>,
-    timed::<3552>,
-    timed::<3824>,
-    timed::<4096>,
-];
-
-fn median(mut times: Vec<f64>) -> f64 {
-    times.sort_by(f64::total_cmp);
-    times[times.len() / 2]
-}
+const SIDES: [Run<State, Tally>; 4] = [rattle, by_c_calls, valued, in_place];
 
 /// The least and the greatest median of a place. Round by round the places take turns.
 fn spread(times: &[f64]) -> [f64; 2] {
-    let mut places: Vec<f64> = (0..PLACES.len())
+    let mut places: Vec<f64> = (0..PLACES)
         .map(|k| {
-            let rounds = times.iter().skip(k).step_by(PLACES.len());
+            let rounds = times.iter().skip(k).step_by(PLACES);
             median(rounds.copied().collect())
         })
         .collect();
     places.sort_by(f64::total_cmp);
-    [places[0], places[PLACES.len() - 1]]
+    [places[0], places[PLACES - 1]]
 }
 
 /// Prints a line, and hands back the spread of each side over the places.
@@ -244,14 +204,7 @@ fn measure(name: &str, profile: u32, mix: Mix, step: u32) -> [[f64; 2]; 4] {
         assert!(ends[0].state == other.state, "{name}: the states differ");
         assert_eq!(ends[0].sent, other.sent, "{name}: the admissions differ");
     }
-    let mut times = SIDES.map(|_| Vec::new());
-    for turn in 0..ROUNDS {
-        for k in 0..SIDES.len() {
-            let side = (turn + k) % SIDES.len();
-            let place = PLACES[turn % PLACES.len()];
-            times[side].push(place(SIDES[side], start, &row));
-        }
-    }
+    let times = rounds(SIDES, start, &row, ROUNDS);
     let spreads = times.each_ref().map(|side| spread(side));
     let [ours, c, a, b] = times.map(median);
     println!(

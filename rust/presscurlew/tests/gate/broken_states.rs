@@ -3,7 +3,9 @@
 
 use std::collections::BTreeMap;
 
-use crate::help::{calls_at, hold, hold_no_state, raw, ACCEPTED_MOST, PROFILES, TIME_END};
+use crate::help::{
+    calls_at, hold, hold_no_state, hold_no_state_burst, raw, ACCEPTED_MOST, PROFILES, TIME_END,
+};
 use presscurlew::sys;
 use reference::miscounts::{one_off, wrapping};
 use reference::rng::Rng;
@@ -204,11 +206,17 @@ impl Broken {
     }
 }
 
-/// Every call on a state is refused with 9, whatever else is wrong with it.
+/// States that break one rule, each with its name.
+pub fn broken_states() -> Vec<(&'static str, State)> {
+    Broken::all().states
+}
+
+/// Every call on a state is refused with 9, whatever else is wrong with it; in a burst each offer is.
 fn hold_all_calls(state: &sys::State, origin: &dyn std::fmt::Display) {
     let profile = state.profile;
     for step in [0, 1_000, 1 << 31] {
         let stamp = state.clock.stamp.wrapping_add(step);
+        hold_no_state_burst(state, stamp, origin);
         for call in calls_at(
             if PROFILES.contains(&profile) {
                 profile
@@ -239,7 +247,7 @@ fn bases_are_sound() {
 #[test]
 fn one_broken_rule_is_refused_with_9() {
     let mut seen = BTreeMap::new();
-    for (rule, state) in Broken::all().states {
+    for (rule, state) in broken_states() {
         assert_eq!(broken_rules(&state), [rule], "{state:?}");
         hold_all_calls(&raw(&state), &format_args!("{rule}: {state:?}"));
         *seen.entry(rule).or_insert(0) += 1;

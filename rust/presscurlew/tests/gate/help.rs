@@ -3,7 +3,9 @@
 use std::fmt::Display;
 
 use presscurlew::sys;
+use reference::burst;
 use reference::gate;
+use reference::log::{Record, RECORD_BYTES};
 use reference::rng::Rng;
 use reference::rules;
 use reference::state::{Counts, Packet, Queue, State};
@@ -176,6 +178,128 @@ pub fn hold_no_state(state: &sys::State, call: &Call, origin: &dyn Display) {
         reply: raw_reply(&Answer::Refused(9)),
     };
     assert_eq!(archive(*state, call), expected, "{origin}: {call:?}");
+}
+
+/// What no answer byte of a burst is.
+pub const BLANK: u8 = 0xa5;
+
+/// A burst, what is behind its pointers included.
+#[derive(Debug, PartialEq, Eq)]
+pub struct Burst {
+    pub state: sys::State,
+    pub number: u32,
+    /// All answer bytes that were lent, blank at first.
+    pub answers: Vec<u8>,
+}
+
+/// A burst on the archive with so many answer bytes. The records, and what lies around them and around the answers, stay
+/// as they are. Where the bytes start in memory differs with their number.
+pub fn archive_burst(state: sys::State, records: &[u8], room: usize) -> Burst {
+    let fence = 1 + (records.len() / RECORD_BYTES + room) % 17;
+    let fenced = |inner: &[u8]| [&vec![BLANK; fence], inner, &vec![BLANK; fence]].concat();
+    let (lent, mut answers) = (fenced(records), fenced(&vec![BLANK; room]));
+    let turn = sys::burst(
+        state,
+        &lent[fence..fence + records.len()],
+        &mut answers[fence..fence + room],
+    );
+    assert_eq!(lent, fenced(records), "the records were written to");
+    let inner = answers[fence..fence + room].to_vec();
+    assert_eq!(answers, fenced(&inner), "written beside the answers");
+    Burst {
+        state: turn.state,
+        number: turn.number,
+        answers: inner,
+    }
+}
+
+/// The same by the archive's single calls, one record after the other: what a burst has to equal, if it is not refused.
+pub fn archive_singles(state: sys::State, records: &[u8], room: usize) -> Burst {
+    let (mut state, mut answers) = (state, vec![BLANK; room]);
+    for (bytes, answer) in records.chunks_exact(RECORD_BYTES).zip(&mut answers) {
+        let record = Record::from_bytes(bytes.try_into().expect("16 bytes"));
+        if record.kind != sys::RECORD_OFFER {
+            *answer = 10;
+            continue;
+        }
+        let turn = archive(state, &offer_of(&record));
+        state = turn.state;
+        *answer = match turn.reply.kind {
+            sys::TAKEN => 0,
+            _ => turn.reply.number as u8,
+        };
+    }
+    let number = 0;
+    Burst {
+        state,
+        number,
+        answers,
+    }
+}
+
+/// The single call of a record of kind 2.
+pub fn offer_of(record: &Record) -> Call {
+    Call::Offer {
+        id: record.id,
+        priority: u32::from(record.priority),
+        ontime: u32::from(record.ontime),
+        lifetime: record.lifetime,
+        stamp: record.stamp,
+    }
+}
+
+/// Holds a burst to the one that is due. Of the answers, the first that differs is named.
+fn hold_same(turn: &Burst, due: &Burst, state: &State, origin: &dyn Display) {
+    let pairs = turn.answers.iter().zip(&due.answers).enumerate();
+    let differs = pairs.into_iter().find(|(_, (given, due))| given != due);
+    assert_eq!(differs, None, "{origin}: an answer on {state:?}");
+    assert_eq!(turn.number, due.number, "{origin}: the number on {state:?}");
+    assert_eq!(turn, due, "{origin}: the next state on {state:?}");
+}
+
+/// Holds a burst on a state to the reference: the number, every answer byte that was lent and every field of the next
+/// state. One that is not refused is held to the single calls of the archive as well.
+pub fn hold_burst(
+    state: &State,
+    records: &[u8],
+    room: usize,
+    origin: &dyn Display,
+) -> (State, Vec<u8>) {
+    let given = raw(state);
+    let mut answers = vec![BLANK; room];
+    let (next, number) = burst::burst(*state, records, &mut answers);
+    let expected = Burst {
+        state: raw(&next),
+        number,
+        answers,
+    };
+    let turn = archive_burst(given, records, room);
+    hold_same(&turn, &expected, state, origin);
+    if number == 0 {
+        let singles = archive_singles(given, records, room);
+        hold_same(&turn, &singles, state, origin);
+    }
+    (next, turn.answers)
+}
+
+/// Holds a burst on a state that is not sound to 9 at each record of kind 2, with the state as it was.
+pub fn hold_no_state_burst(state: &sys::State, stamp: u32, origin: &dyn Display) {
+    let kinds = [2, 3, 0, 2, 1, 255, 2];
+    let records = kinds.map(|kind| Record {
+        kind,
+        priority: 1,
+        ontime: 1,
+        lifetime: 1,
+        id: 9,
+        stamp,
+    });
+    let bytes: Vec<u8> = records.iter().flat_map(Record::to_bytes).collect();
+    let expected = Burst {
+        state: *state,
+        number: 0,
+        answers: vec![9, 10, 10, 9, 10, 10, 9, BLANK],
+    };
+    assert_eq!(archive_burst(*state, &bytes, 8), expected, "{origin}");
 }
 
 /// Sixteen words with the first `busy` probes busy.

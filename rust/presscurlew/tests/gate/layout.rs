@@ -4,7 +4,7 @@
 use std::fmt::Write;
 use std::mem::{offset_of, size_of};
 
-use presscurlew::sys::{Clock, Counts, Last, Packet, Queue, Reply, State, Tuning, Turn};
+use presscurlew::sys::{BurstTurn, Clock, Counts, Last, Packet, Queue, Reply, State, Tuning, Turn};
 
 const LAYOUT: &str = include_str!("../../../../examples/c/layout.out");
 
@@ -28,5 +28,6 @@ fn structs_lie_as_c_sees_them() {
     layout!(text, "state", State, queues, clock, last, counts, tuning, profile, live);
     layout!(text, "reply", Reply, packet, number, kind);
     layout!(text, "turn", Turn, state, reply);
+    layout!(text, "burst_turn", BurstTurn, state, number);
     assert_eq!(text, LAYOUT);
 }

@@ -3,6 +3,7 @@
 //! - `runs`: random and edge runs from a fresh state, with the book over them
 //! - `sound_states`: sound states that no run need reach
 //! - `broken_states`: states with one rule of soundness broken
+//! - `bursts`: many offers in one call
 //! - `refusals`: which refusal comes first, and that it changes nothing
 //! - `samples`: the busy count of words
 //! - `sample_log`: the requirement's own log
@@ -10,6 +11,7 @@
 //! - `layout`: sizes and offsets, the same as C sees
 
 mod broken_states;
+mod bursts;
 mod help;
 mod layout;
 mod refusals;

@@ -9,7 +9,7 @@ use reference::rules;
 use reference::state::{Packet, Queue, State};
 
 /// A sound state near the end of time whose queue 1 is full until the end, with so many offers accepted.
-fn late(profile: u32, accepted: u64) -> State {
+pub fn late(profile: u32, accepted: u64) -> State {
     let time = TIME_END - 1_000;
     let packet = Packet {
         id: 5,

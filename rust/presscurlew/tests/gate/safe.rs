@@ -131,14 +131,17 @@ fn refusals_have_the_names_and_numbers_of_the_table() {
         (7, "BAD-LIFETIME"),
         (8, "QUEUE-FULL"),
         (9, "NO-STATE"),
+        (10, "BAD-KIND"),
         (11, "SPENT"),
+        (12, "NO-ROOM"),
+        (13, "TORN-LOG"),
     ];
     for (number, name) in table {
         let refusal = Refusal::from_number(number).unwrap();
         assert_eq!((refusal.number(), refusal.name()), (number, name));
         assert!(refusal.to_string().starts_with(&format!("{name}: ")));
     }
-    for number in [0, 10, 12, u32::MAX] {
+    for number in [0, 14, 255, u32::MAX] {
         assert_eq!(Refusal::from_number(number), None);
     }
 }

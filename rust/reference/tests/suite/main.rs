@@ -2,6 +2,7 @@
 
 mod bench;
 mod book_checks;
+mod burst;
 mod ccalls;
 mod clock;
 mod counts;
