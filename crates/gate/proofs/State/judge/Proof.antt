@@ -166,12 +166,15 @@ judged c =
     (a .loop .inv .3 ∙ ap (λ (n : ℕ). waitingTo n (s .args .t1 .queues)) e ∙ waiting-all (s .args .t1 .queues) (long s))))
 
 returns-8 : tie.Need-returns-8 Inv-loop μ-loop
-returns-8 c = judged (c .before) ∙ ap (λ (u : Bool). u && noting _) (not-true _ (c .if8 .taken))
+returns-8 c =
+    let s = begun (c .before .before .before .before) in
+    judged (c .before) ∙ ap (λ (u : Bool). u && noting (s .args .t1)) (not-true (c .before .are-counts-sound .result) (c .if8 .taken))
 
 returns-9 : tie.Need-returns-9 Inv-loop μ-loop
 returns-9 c =
     let t = c .before .before .before .before .before .before .before .before in (
-      judged (c .before) ∙ ap (λ (u : Bool). u && noting _) (not-false _ (c .if8 .left)),
+      judged (c .before)
+          ∙ ap (λ (u : Bool). u && noting (begun (c .before .before .before .before) .args .t1)) (not-false (c .before .are-counts-sound .result) (c .if8 .left)),
       leb-true _ _ (in-time _ (sym (t .before .passes-end .ensures) ∙ t .if5 .left)),
     )
 
