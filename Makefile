@@ -1,6 +1,6 @@
 # Presscurlew: what can be run. Everything that is made lies below target/.
 
-ARCHIVES := target/staticlib/libcstack.a target/staticlib/libhost.a target/staticlib/libloops.a
+ARCHIVES := $(patsubst %,target/staticlib/lib%.a,cstack host bursts loops)
 PROVED := crates.txt $(shell find crates -name '*.rt' -o -name '*.antt')
 
 help:

@@ -1,10 +1,11 @@
 /*
  * Presscurlew: a transmit gate for a shared 5.9 GHz radio channel, for radio stacks in C and C++.
  *
- * Two groups of calls:
- *   the gate    make, sample, offer, burst and poll on a state that the host keeps        link libhost.a
+ * Three archives, each for itself:
+ *   the gate    make, sample, offer and poll on a state that the host keeps                link libhost.a
+ *   the burst   many offers on such a state in one call                                    link libbursts.a
  *   the rules   the gate's rules on plain numbers, for a stack that has a gate of its own  link libcstack.a
- * Both archives stand in target/staticlib (x86-64, System V calling convention).
+ * They stand in target/staticlib (x86-64, System V calling convention).
  *
  * Each call is proved to answer what its comment says, for any numbers and any state at all: nothing is
  * undefined and nothing aborts. All are pure functions: what they need comes in by value (but for the words

@@ -24,12 +24,15 @@ use Rattle.calllog.proofs.burst.Statement.{statement}
 use Rattle.calllog.proofs.burst.Tie as tie
 
 abbrev Inv-loop : tie.InvT-loop
-Inv-loop state₀ records answers₀ number sound n i₀ state answers i =
+Inv-loop state₀ records answers₀ sound number n i₀ state answers i =
     (i ≤ n) × (length answers ≡ length answers₀) × (state ≡ offeredTo state₀ records i)
     × (answers ≡ written answers₀ 0 (answersTo state₀ records i)) × (sound ≡ soundState state)
 
 abbrev μ-loop : tie.MeasureT-loop
-μ-loop state₀ records answers₀ number sound n i₀ state answers i = n - i
+μ-loop state₀ records answers₀ sound number n i₀ state answers i = n - i
+
+is-sound-requires : tie.Need-is-sound-requires Inv-loop μ-loop
+is-sound-requires c κs = search needs
 
 burst-refusal-requires : tie.Need-burst-refusal-requires Inv-loop μ-loop
 burst-refusal-requires c κs = search needs
@@ -39,15 +42,13 @@ returns : tie.Need-returns Inv-loop μ-loop
 unfolding burstState burstAnswers
 returns c =
     let e = c .before .burst-refusal .ensures in
-    let left = ne-eqb _ _ (λ z. c .if1 .taken (e ∙ z)) in
+    let refused : c .before .burst-refusal .result ≡ 0 → ⊥ = c .if1 .taken in
+    let left = ne-eqb _ _ (λ z. refused (e ∙ z)) in
     (e, (sym (rw left), sym (rw left)))
-
-is-sound-requires : tie.Need-is-sound-requires Inv-loop μ-loop
-is-sound-requires c κs = search needs
 
 loop-holds : tie.Need-loop-holds Inv-loop μ-loop
 unfolding offeredTo answersTo
-loop-holds c = (omega arith, refl, refl, refl, c .is-sound .ensures .0)
+loop-holds c = (omega arith, refl, refl, refl, c .before .before .is-sound .ensures .0)
 
 mul-read-record : tie.Need-mul-read-record Inv-loop μ-loop
 mul-read-record c = omega arith
@@ -67,16 +68,17 @@ done :
     (c : tie.Joined2 Inv-loop μ-loop)
     → let l = c .before .before .before .before .loop in
     (outcome (c .if2 .state) (c .if2 .answer) ≡ offeredBy (l .state) (c .before .before .read-record .result))
-    × (c .before .before .before .before .before .is-sound .result ≡ soundState (c .if2 .state))
+    × (c .before .before .before .before .before .before .before .is-sound .result ≡ soundState (c .if2 .state))
 done c =
     let l = c .before .before .before .before .loop in
     let met = l .state in
     let rec = c .before .before .read-record .result in
     ⊎-elim
-    (λ way. (
-      ap₂ outcome (way .5) (way .6) ∙ way .3 .ensures ∙ sym (step-call met rec _ (way .2 .ensures))
+    (λ way.
+    let reached : c .if2 .state ≡ way .3 .result .state = way .5 in (
+      ap₂ outcome reached (way .6) ∙ way .3 .ensures ∙ sym (step-call met rec _ (way .2 .ensures))
           ∙ step-call met rec _ (asks-offer rec (way .0 .taken)) ∙ sym (offered-call met rec (way .0 .taken)),
-      way .1 .taken ∙ sym (call-keeps _ met _ (way .3 .ensures) (sym (l .inv .4) ∙ way .1 .taken)) ∙ ap soundState (sym (way .5)),
+      way .1 .taken ∙ sym (call-keeps _ met _ (way .3 .ensures) (sym (l .inv .4) ∙ way .1 .taken)) ∙ ap soundState (sym reached),
     ))
     (⊎-elim
     (λ way. (
@@ -102,8 +104,8 @@ lies-inside :
     < length (now (c .before .before .before .before .before .before .before .before .before .before .before .args .answers))
 lies-inside c =
     let s = c .before .before .before .before .before .before .before .before .before .before .before in
-    let refusal = c .before .before .before .before .before .before .before .before .burst-refusal in
-    let none : refusal .result ≡ 0 = omega (arith, c .before .before .before .before .before .before .before .if1 .left) in
+    let refusal = c .before .before .before .before .before .before .before .burst-refusal in
+    let none : refusal .result ≡ 0 = omega (arith, c .before .before .before .before .before .before .if1 .left) in
     omega (
       arith,
       has-room (length (now (s .args .records))) (length (now (s .args .answers))) (sym (refusal .ensures) ∙ none),
@@ -137,7 +139,7 @@ loop-again c =
       length-set (l .answers) i (c .answer-byte .result) ∙ l .inv .1,
       rw add-one (ap (λ (x : Outcome). x .state) e),
       rw add-one
-      (ap₂ (λ (d : List ℕ) (b : ℕ). set d i b) (l .inv .3) byte
+          (ap₂ (λ (d : List ℕ) (b : ℕ). set d i b) (l .inv .3) byte
           ∙ behind answers (answersTo given records i) i _ (answers-length given records i) (lies-inside c)),
       done (c .before) .1,
     )
@@ -148,8 +150,8 @@ same-length c = c .before .loop .inv .1
 returns-2 : tie.Need-returns-2 Inv-loop μ-loop
 unfolding burstState burstAnswers
 returns-2 c =
-    let e = c .before .before .before .before .burst-refusal .ensures in
-    let z : c .before .before .before .before .burst-refusal .result ≡ 0 = omega arith in
+    let e = c .before .before .before .burst-refusal .ensures in
+    let z : c .before .before .before .burst-refusal .result ≡ 0 = omega arith in
     let taken = eq-eqb _ _ (sym e ∙ z) in
     let l = c .before .loop in
     let whole : l .i ≡ length (now (c .before .before .before .before .before .before .before .args .records)) / 16 = omega arith in
@@ -161,9 +163,9 @@ burst-spec =
     (tie.spec
     Inv-loop
     μ-loop
+    is-sound-requires
     burst-refusal-requires
     returns
-    is-sound-requires
     loop-holds
     mul-read-record
     read-record-requires
