@@ -129,7 +129,8 @@ typedef struct presscurlew_last {
  *
  *   accepted = sent + expired + displaced + the packets that wait
  *
- * The sum is that of whole numbers: counts that add up only modulo 2^64 are not sound.
+ * The sum is that of whole numbers: counts that add up only modulo 2^64 are not sound. Which of them are 0 is not
+ * judged: a state of REFUSE_NEW with packets displaced is sound, though no call leads to one.
  */
 typedef struct presscurlew_counts {
     uint64_t accepted;  /* offers that were TAKEN; at most 10^15 */
@@ -223,7 +224,8 @@ presscurlew_turn presscurlew_sample_count(presscurlew_state state, uint32_t busy
  * A packet to send. The clock moves, every expired packet of all queues is removed and counted, and the packet
  * joins the back of its priority's queue and is counted as accepted. If 5 wait there still, a gate of DROP_OLDEST
  * drops the front one first, and counts it as displaced; so a packet is displaced by the fifth packet of its own
- * priority that is taken after it, or by a later one, and by nothing else. TAKEN.
+ * priority that is taken after it, or by a later one, and by nothing else. Which one it was is not answered; that
+ * there was one shows in the counts. TAKEN.
  *
  *   turn = presscurlew_offer(state, 7, 1, 400, 100000, radio_clock());   a packet of 400 us, good for 100 ms
  *

@@ -70,8 +70,8 @@ pub struct Gate {
 #[repr(u32)]
 #[derive(Clone, Copy, Debug, Default, PartialEq, Eq, Hash)]
 pub enum WhenFull {
-    /// The front one leaves, and the new one joins. What is news goes in; a packet can be displaced, though by none before
-    /// the fifth of its own priority that is taken after it.
+    /// The front one leaves, and the new one joins. What is news goes in; a packet can be displaced, though by none
+    /// before the fifth of its own priority that is taken after it.
     #[default]
     DropOldest = sys::DROP_OLDEST,
     /// The new one is refused with [`Refusal::QueueFull`]. A packet that was taken is sent or expires.
@@ -117,15 +117,16 @@ impl fmt::Display for Answer {
 }
 
 impl Offer {
-    /// The offer at a stamp as a record of a burst ([`sys::burst`]): kind 2, priority (1 byte), on-time (2), lifetime (4),
-    /// identifier (4), stamp (4), little-endian. [`Gate::offer_burst`] does it by itself.
+    /// The offer at a stamp as a record of a burst ([`sys::burst`]): kind 2, priority (1 byte), on-time (2), lifetime
+    /// (4), identifier (4), stamp (4), little-endian. [`Gate::offer_burst`] does it by itself.
     ///
-    /// A priority above 255 is written as 255 and an on-time above 65,535 as 65,535, which is all that their bytes hold.
+    /// A priority above 255 is written as 255 and an on-time above 65,535 as 65,535, which is all that their bytes
+    /// hold.
     #[inline]
     pub fn record(self, stamp: u32) -> [u8; sys::RECORD_BYTES] {
-        // The record is refused just as the single offer is: no priority above 3 and no on-time above 4,000 is allowed in
-        // any profile, so that the number written gets 5 or 6 exactly if the one given does; and no other refusal looks
-        // at either number before 5 and 6 are settled.
+        // The record is refused just as the single offer is: no priority above 3 and no on-time above 4,000 is allowed
+        // in any profile, so that the number written gets 5 or 6 exactly if the one given does; and no other refusal
+        // looks at either number before 5 and 6 are settled.
         let priority = u8::try_from(self.priority).unwrap_or(u8::MAX);
         let ontime = u16::try_from(self.ontime).unwrap_or(u16::MAX);
         let mut record = [0; sys::RECORD_BYTES];
@@ -305,8 +306,8 @@ impl Gate {
         Ok(())
     }
 
-    /// A packet to send: it joins the back of its priority's queue. Where 5 unexpired packets wait there, [`WhenFull`] says
-    /// what happens.
+    /// A packet to send: it joins the back of its priority's queue. Where 5 unexpired packets wait there, [`WhenFull`]
+    /// says what happens.
     ///
     /// # Errors
     ///
@@ -325,8 +326,8 @@ impl Gate {
         Ok(())
     }
 
-    /// Packets to send, each with its stamp, in one call: exactly [`Gate::offer`] of one after the other, and faster. There
-    /// is an answer for each, in their order, and one that is refused does not stop those after it.
+    /// Packets to send, each with its stamp, in one call: exactly [`Gate::offer`] of one after the other, and faster.
+    /// There is an answer for each, in their order, and one that is refused does not stop those after it.
     ///
     /// ```
     /// use presscurlew::{Gate, Offer, Refusal, WhenFull};

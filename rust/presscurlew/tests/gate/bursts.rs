@@ -5,11 +5,11 @@
 use crate::broken_states::broken_states;
 use crate::help::{
     archive_burst, archive_singles, edge_or, gates, hold, hold_burst, offer_of, raw, Answer, Burst,
-    Call, ACCEPTED_MOST, BLANK, EDGE_LIFETIMES, EDGE_STEPS, PROFILES, TIME_END, WAYS,
+    Call, ACCEPTED_MOST, BLANK, EDGE_LIFETIMES, EDGE_STEPS, PROFILES, TIME_END, WAYS, WHEN_FULL,
 };
 use crate::refusals::late;
 use crate::sound_states::sound_state;
-use presscurlew::{sys, Gate, Offer, Refusal, WhenFull};
+use presscurlew::{sys, Gate, Offer, Refusal};
 use reference::book::Book;
 use reference::burst::burst;
 use reference::log::Record;
@@ -516,15 +516,13 @@ fn any_offer(rng: &mut Rng, last: u32) -> (Offer, u32) {
     (offer, last.wrapping_add(step))
 }
 
-const FULL: [WhenFull; 2] = [WhenFull::DropOldest, WhenFull::RefuseNew];
-
 /// Two gates, one by bursts and one by single offers: the same answers, the same states.
 #[test]
 fn a_gate_takes_bursts_as_single_offers() {
     let mut seen = [0; 14];
     for (profile, way) in gates() {
         let mut rng = Rng::new(0xb045e + u64::from(profile));
-        let (start, way) = (rng.next_u32(), FULL[way as usize]);
+        let (start, way) = (rng.next_u32(), WHEN_FULL[way as usize]);
         let mut bursting = Gate::new(profile, way, start).unwrap();
         let mut single = Gate::new(profile, way, start).unwrap();
         for index in 0..10_000 {

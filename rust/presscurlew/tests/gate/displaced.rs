@@ -4,6 +4,7 @@
 use crate::help::{
     archive, archive_burst, gates, hold, raw_reply, Answer, Call, ACCEPTED_MOST, PROFILES,
 };
+use crate::safe::polled;
 use crate::sound_states::sound_state;
 use presscurlew::{sys, Gate, Offer, Packet, WhenFull};
 use reference::book::Book;
@@ -288,11 +289,7 @@ fn none_is_displaced_before_the_fifth_after_it() {
             stamp += rng.below(4_000) as u32;
             let priority = rng.below(4) as u32;
             if rng.one_in(3) {
-                let answer = match gate.poll(stamp).unwrap() {
-                    presscurlew::Answer::Sent(packet) => Answer::Sent(theirs(packet)),
-                    presscurlew::Answer::Idle => Answer::Idle,
-                    presscurlew::Answer::Closed { micros } => Answer::Closed(micros),
-                };
+                let answer = polled(gate.poll(stamp).unwrap());
                 book.feed(&Call::Poll { stamp }, &answer).unwrap();
                 continue;
             }
@@ -315,15 +312,5 @@ fn none_is_displaced_before_the_fifth_after_it() {
         }
         assert!(gate.counts().displaced > 1_000, "{:?}", gate.counts());
         assert_eq!(book.closest().fewest_offers, Some(5));
-    }
-}
-
-fn theirs(packet: Packet) -> reference::state::Packet {
-    reference::state::Packet {
-        id: packet.id,
-        priority: packet.priority,
-        ontime: packet.ontime,
-        lifetime: packet.lifetime,
-        arrival: packet.arrival,
     }
 }

@@ -2,7 +2,7 @@
 
 use std::fmt::Display;
 
-use presscurlew::sys;
+use presscurlew::{sys, WhenFull};
 use reference::burst;
 use reference::gate;
 use reference::log::{Record, RECORD_BYTES};
@@ -15,6 +15,8 @@ pub use reference::gate::{Answer, Call};
 pub const PROFILES: [u32; 3] = [1, 2, 3];
 /// What a gate does when a queue is full.
 pub const WAYS: [u32; 2] = [sys::DROP_OLDEST, sys::REFUSE_NEW];
+/// The same, as `Gate` has it.
+pub const WHEN_FULL: [WhenFull; 2] = [WhenFull::DropOldest, WhenFull::RefuseNew];
 
 /// Each profile in each way.
 pub fn gates() -> impl Iterator<Item = (u32, u32)> {

@@ -2,6 +2,7 @@
 
 use crate::help::{
     edge_or, random_words, raw, raw_counts, Answer, Call, EDGE_COUNTS, EDGE_STEPS, PROFILES,
+    WHEN_FULL,
 };
 use presscurlew::{Gate, Offer, Packet, Refusal, WhenFull};
 use reference::book::Book;
@@ -37,7 +38,8 @@ fn taken(answer: Result<(), Refusal>) -> Result<Answer, Refusal> {
     answer.map(|()| Answer::Taken)
 }
 
-fn polled(answer: presscurlew::Answer) -> Answer {
+/// The answer to a poll in the reference's words.
+pub fn polled(answer: presscurlew::Answer) -> Answer {
     match answer {
         presscurlew::Answer::Sent(Packet {
             id,
@@ -84,12 +86,10 @@ fn any_call(rng: &mut Rng, last: u32) -> Call {
     }
 }
 
-const WAYS: [WhenFull; 2] = [WhenFull::DropOldest, WhenFull::RefuseNew];
-
 #[test]
 fn a_gate_says_what_the_reference_says() {
     for profile in PROFILES {
-        for way in WAYS {
+        for way in WHEN_FULL {
             follow(profile, way);
         }
     }
@@ -119,9 +119,9 @@ fn follow(profile: u32, way: WhenFull) {
 /// The numbers that the archive knows the two ways by.
 #[test]
 fn ways_have_their_numbers() {
-    assert_eq!(WAYS.map(|way| way as u32), [0, 1]);
+    assert_eq!(WHEN_FULL.map(|way| way as u32), [0, 1]);
     assert_eq!(WhenFull::default(), WhenFull::DropOldest);
-    for way in WAYS {
+    for way in WHEN_FULL {
         let gate = Gate::new(1, way, 0).unwrap();
         assert_eq!(gate.state().oldway, way as u32);
     }
@@ -130,7 +130,7 @@ fn ways_have_their_numbers() {
 #[test]
 fn bad_profiles_make_no_gate() {
     for profile in [0, 4, u32::MAX] {
-        for way in WAYS {
+        for way in WHEN_FULL {
             assert_eq!(Gate::new(profile, way, 0), Err(Refusal::BadProfile));
         }
     }
