@@ -72,12 +72,12 @@ abbrev pub counted : State → Bool
 counted s = allOf (countRules (howMany (listsOf (s .queues))) (s .counts))
 
 -- where the numbers are sound, the state is exactly if its queues are
-pub sound-by-queues : (s : State) → length (s .queues) ≡ 4 → eqb (s .live) 1 ≡ true → steered s ≡ true
+pub sound-by-queues : (s : State) → length (s .queues) ≡ 4 → eqb (s .live) 1 ≡ true → leb (s .oldway) 1 ≡ true → steered s ≡ true
     → leb (s .clock .time) endOfTime ≡ true → lasting s ≡ true
     → soundState s ≡ (soundQueues (s .profile) (s .clock .time) 0 (s .queues) && counted s)
 unfolding soundState sound soundQueues soundQueue
-sound-by-queues s h a b c d =
-    rw (a, b, c, d)
+sound-by-queues s h a w b c d =
+    rw (a, w, b, c, d)
     (regroup (tidy (queueAt qs 0)) (tidy (queueAt qs 1)) (tidy (queueAt qs 2)) (tidy (queueAt qs 3))
     (judge 0) (judge 1) (judge 2) (judge 3) (counted s)
     ∙ ap (λ (l : List Queue). soundQueues (s .profile) now 0 l && counted s) (sym (four-long qs h)))
@@ -107,6 +107,10 @@ module _ (s : State) where
   pub unsound-live : (s .live ≡ 1 → ⊥) → soundState s ≡ false
   unfolding soundState sound
   unsound-live h = simp (ne-eqb (s .live) 1 h, and-false)
+
+  pub unsound-way : 1 < s .oldway → soundState s ≡ false
+  unfolding soundState sound
+  unsound-way h = simp (lt-leb (s .oldway) 1 h, and-false)
 
   pub unsound-control : steered s ≡ false → soundState s ≡ false
   unfolding soundState sound

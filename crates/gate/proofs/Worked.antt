@@ -23,10 +23,10 @@ empty = record { len = 0; slots = noPacket ∷ noPacket ∷ noPacket ∷ noPacke
 
 -- a fresh state of profile 2: four queues of five zero slots
 fresh : State
-fresh = makeState (record { profile = 2; stamp = 7 }) .state
+fresh = makeState (record { profile = 2; oldway = 0; stamp = 7 }) .state
 
 fresh-queues :
-    (makeState (record { profile = 2; stamp = 7 }) .answer ≡ Ready)
+    (makeState (record { profile = 2; oldway = 0; stamp = 7 }) .answer ≡ Ready)
     × (fresh .queues ≡ empty ∷ empty ∷ empty ∷ empty ∷ [])
     × (fresh .live ≡ 1)
     × (soundState fresh ≡ true)

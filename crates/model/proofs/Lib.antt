@@ -4,6 +4,7 @@ pub mod Fours
 pub mod Window
 pub mod Columns
 pub mod Turns
+pub mod Displacing
 pub mod Refusals
 pub mod Profile
 pub mod Orders
@@ -17,6 +18,7 @@ pub mod Runs
 pub mod Demand3
 pub mod DeliveryLines
 pub mod DeliveryPast
+pub mod DeliverySpared
 pub mod DeliverySteps
 pub mod Delivery
 pub mod Sampling

@@ -16,7 +16,7 @@ use Rattle.model.proofs.Worked.{made, answersOf}
 
 -- the records of the sample log
 sampleMake : Making
-sampleMake = record { profile = 2; stamp = 4294967000 }
+sampleMake = record { profile = 2; oldway = 0; stamp = 4294967000 }
 
 seven : Offer
 seven = record { id = 7; priority = 2; ontime = 400; lifetime = 1000000 }

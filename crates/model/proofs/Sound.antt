@@ -35,7 +35,7 @@ pub record SoundLast (profile now : ℕ) (l : Last) : Type 0 where
       cond (eqb (l .admitted) 1) (ontimeAllowed profile (l .ontime)) (eqb (l .at) 0 && eqb (l .ontime) 0) ≡ true
 
 pub record SoundCounts (waiting : ℕ) (c : Counts) : Type 0 where
-  pub sum : c .accepted ≡ c .sent + c .expired + waiting
+  pub sum : c .accepted ≡ c .sent + c .expired + c .displaced + waiting
   pub most : c .accepted ≤ mostOffers
 
 abbrev pub SoundQueues : (profile now : ℕ) → Four Packet → Type 0
@@ -43,6 +43,7 @@ SoundQueues profile now q = Fours (Queued profile now) q
 
 pub record SoundView (v : View) : Type 0 where
   pub live : eqb (v .live) 1 ≡ true
+  pub way : v .oldway ≤ 1
   pub control : SoundControl (v .control)
   pub time : v .clock .time ≤ endOfTime
   pub last : SoundLast (v .control .profile) (v .clock .time) (v .last)
@@ -90,11 +91,12 @@ test-view v e =
     let h = all-true (statusRules v) e in
     record {
       live = h .0;
-      control = test-control (v .control) (h .1 .0);
-      time = omega (tested, h .1 .1 .0);
-      last = test-last (v .control .profile) (v .clock .time) (v .last) (h .1 .1 .1 .0);
-      queues = test-queues (v .control .profile) (v .clock .time) (v .waiting) (h .1 .1 .1 .1 .0);
-      counts = test-counts (howMany (v .waiting)) (v .counts) (h .1 .1 .1 .1 .1 .0);
+      way = omega (tested, h .1 .0);
+      control = test-control (v .control) (h .1 .1 .0);
+      time = omega (tested, h .1 .1 .1 .0);
+      last = test-last (v .control .profile) (v .clock .time) (v .last) (h .1 .1 .1 .1 .0);
+      queues = test-queues (v .control .profile) (v .clock .time) (v .waiting) (h .1 .1 .1 .1 .1 .0);
+      counts = test-counts (howMany (v .waiting)) (v .counts) (h .1 .1 .1 .1 .1 .1 .0);
     }
 
 pub view-test : (v : View) → SoundView v → sound v ≡ true
@@ -102,6 +104,7 @@ unfolding sound
 view-test v h =
     rw (
       h .live,
+      le-leb _ _ (h .way),
       control-test (v .control) (h .control),
       le-leb _ _ (h .time),
       last-test (v .control .profile) (v .clock .time) (v .last) (h .last),

@@ -28,14 +28,14 @@ use Rattle.model.specs.Calls.{Call, words, count, offer, poll, Making, i
 use Rattle.model.specs.State.{Status, View, sound}
 use Rattle.model.specs.Effects.{Result}
 use Rattle.model.specs.Gate.{makeChecks, makeIn, make, checks, call}
-use Rattle.model.specs.Journal.{Entry, Admission, Way, expiry, admission, Departure, Journal}
-use Rattle.model.specs.Journal.{opened, turned, arriving, entryOf, lowest, top, atPoll, journalOf, airTime}
-use Rattle.model.specs.Claims.{viewAfter, events, All, InTurn, Newest, Claims}
-use Rattle.model.specs.Delivery.{Among, longestWait, lastPoll, PolledEvery}
+use Rattle.model.specs.Journal.{Entry, Admission, Way, expiry, displacement, admission, Departure, Journal}
+use Rattle.model.specs.Journal.{opened, turned, arriving, roomFor, entryOf, lowest, top, atPoll, journalOf, airTime}
+use Rattle.model.specs.Claims.{viewAfter, events, All, InTurn, ByTheFifth, Newest, Claims}
+use Rattle.model.specs.Delivery.{Among, longestWait, lastPoll, PolledEvery, FewerThanFive}
 use Rattle.model.proofs.Refusals.{refusals-change-nothing, refusals-are-exact}
 use Rattle.model.proofs.KeepsSound.{calls-keep-sound}
 use Rattle.model.proofs.Runs.{runs-are-their-parts}
-use Rattle.model.proofs.Demand3.{demand3}
+use Rattle.model.proofs.Demand3.{demand3, old-way-displaces-nothing}
 use Rattle.model.proofs.DeliveryLines.{all-of}
 use Rattle.model.proofs.Delivery.{delivery}
 use Rattle.model.proofs.Computing.{of-runs}
@@ -118,19 +118,24 @@ module _ (m : Making) (calls : List Call) (ready : make m .answer ≡ Ready) whe
   last-admitted a l e = let h = subst (Newest (v .last)) e (claims .admissions) in (eqb-true _ _ (h .0), h .1, h .2)
 
   -- "each count equals the number of such events in the run"; "accepted equals sent plus expired plus the packets waiting"
-  -- (W-201)
+  -- (W-201), with "a fourth count, displaced" (W-205)
   same-counts :
-      (v .counts .accepted ≡ j .offers) × (v .counts .sent ≡ length (j .admissions)) × (v .counts .expired ≡ j .expiries)
+      (v .counts .accepted
+      ≡ length (j .offers .c0) + length (j .offers .c1) + length (j .offers .c2) + length (j .offers .c3))
+      × (v .counts .sent ≡ length (j .admissions))
+      × (v .counts .expired ≡ j .expiries)
+      × (v .counts .displaced ≡ j .displacements)
   same-counts =
       let e = claims .counts in (
         ap (λ (c : Counts). c .accepted) e,
         ap (λ (c : Counts). c .sent) e,
         ap (λ (c : Counts). c .expired) e,
+        ap (λ (c : Counts). c .displaced) e,
       )
 
   adds-up :
       v .counts .accepted
-      ≡ v .counts .sent + v .counts .expired
+      ≡ v .counts .sent + v .counts .expired + v .counts .displaced
       + (length (v .waiting .c0) + length (v .waiting .c1) + length (v .waiting .c2) + length (v .waiting .c3))
   adds-up = claims .adds-up
 
@@ -173,11 +178,32 @@ module _ (m : Making) (calls : List Call) (ready : make m .answer ≡ Ready) whe
   seen-at-most-k : (l : Entry) → Among l (j .columns .c0) → length (j .admissions) - l .earlier ≤ l .above
   seen-at-most-k l there = omega (arith, all-of _ l (j .columns .c0) (claims .still-there) there)
 
-  -- "leaves by expiry, .. or no later than with the (k+1)th admission after it came" (W-205's wording of it)
+  -- "leaves by expiry, by displacement, or no later than with the (k+1)th admission after it came" (W-205)
   gone-in-turn : (l : Entry) (n at : ℕ) → l .packet .priority ≡ 0
       → Among (record { entry = l; way = admission n; at = at }) (j .departures) → n ≤ l .earlier + l .above + 1
   gone-in-turn l n at zero left =
       omega (arith, all-of _ (record { entry = l; way = admission n; at = at }) (j .departures) (claims .leaving) left zero)
+
+  -- a packet is displaced only by the fifth or a later accepted offer of its own priority after it came, whatever k was
+  displaced-by-the-fifth : (l : Entry) (priority n at : ℕ)
+      → Among (record { entry = l; way = displacement priority n; at = at }) (j .departures)
+      → (priority ≡ l .packet .priority) × (5 ≤ n - l .ordinal)
+  displaced-by-the-fifth l priority n at left =
+      let d = all-of _ (record { entry = l; way = displacement priority n; at = at }) (j .departures) (claims .displacing) left in
+      (d .0, omega (arith, d .1))
+
+  -- "a gate made in the old way" displaces nothing
+  old-way-keeps-all : m .oldway ≡ 1
+      → ((l : Entry) (priority n at : ℕ)
+      → Among (record { entry = l; way = displacement priority n; at = at }) (j .departures)
+      → ⊥)
+      × (v .counts .displaced ≡ 0)
+  old-way-keeps-all old =
+      let h = old-way-displaces-nothing m calls ready old in (
+        λ l priority n at left.
+            all-of _ (record { entry = l; way = displacement priority n; at = at }) (j .departures) (h .0) left,
+        h .1,
+      )
 
 -- a run is as long as one likes: its calls in two parts are one run
 in-parts : (v : View) (j : Journal) (cs ds : List Call)
@@ -191,7 +217,7 @@ module _ (m : Making) (p at : ℕ) (o : Offer) (before behind : List Call) where
   runBefore = journalOf (opened (m .stamp)) (events (make m .view) before)
 
   abbrev own : Entry
-  own = entryOf (atPoll runBefore at) (arriving (turned runBefore at) o)
+  own = entryOf (roomFor (atPoll runBefore at) (o .priority)) (arriving (turned runBefore at) o)
 
   abbrev behindOffer : Journal
   behindOffer = journalOf (opened (m .stamp)) (events (make m .view) (before ++ offer at o ∷ []))
@@ -209,19 +235,25 @@ module _ (m : Making) (p at : ℕ) (o : Offer) (before behind : List Call) where
       × Among (record { entry = own; way = admission n; at = t }) (end .departures)
       × (t ≤ turned runBefore at .time + µs)
 
-  -- sent within (k + 1) × (quiet + p), not expired
+  -- sent within (k + 1) × (quiet + p), neither expired nor displaced, if fewer than five offers of priority 0 are accepted while
+  -- it waits, or in the old way
   sent-in-time : (µs : ℕ) → quiet (m .profile) ≡ µs → make m .answer ≡ Ready → o .priority ≡ 0
       → call (viewAfter (make m .view) before) (offer at o) .answer ≡ Taken
       → suc (own .above) * (µs + p) < o .lifetime
       → PolledEvery p own (turned runBefore at .time) behindOffer eventsBehind
+      → FewerThanFive own behindOffer eventsBehind ⊎ (m .oldway ≡ 1)
       → ((t : ℕ) → Among (record { entry = own; way = expiry; at = t }) (end .departures) → ⊥)
+      × ((priority n t : ℕ)
+      → Among (record { entry = own; way = displacement priority n; at = t }) (end .departures)
+      → ⊥)
       × (Among own (end .columns .c0) ⊎ SentIn (suc (own .above) * (µs + p)))
       × (turned runBefore at .time + suc (own .above) * (µs + p) < end .time
       → (Among own (end .columns .c0) → ⊥) × SentIn (suc (own .above) * (µs + p)))
-  sent-in-time µs e ready zero taken long polled =
-      let d = delivery m p at o before behind ready zero taken (rw e long) polled in
+  sent-in-time µs e ready zero taken long polled spared =
+      let d = delivery m p at o before behind ready zero taken (rw e long) polled spared in
       let same = ap (λ (q : ℕ). suc (own .above) * (q + p)) e in (
         d .not-expired,
+        d .not-displaced,
         subst (λ (x : ℕ). Among own (end .columns .c0) ⊎ SentIn x) same (d .so-far),
         subst
             (λ (x : ℕ). turned runBefore at .time + x < end .time → (Among own (end .columns .c0) → ⊥) × SentIn x)
@@ -239,20 +271,37 @@ admissions : map isSent answers ≡ false ∷ false ∷ true ∷ false ∷ false
 admissions = refl
 
 -- The journal, opened at stamp 5, is "fed each call's arguments and answer".
-abbrev page : (time stamp offers expiries : ℕ) → Four Entry → List Admission → List Departure → Journal
+abbrev page : (time stamp : ℕ) → Four Packet → (expiries : ℕ) → Four Entry → List Admission → List Departure → Journal
 page time stamp offers expiries columns admissions departures =
     record {
       time = time;
       stamp = stamp;
       offers = offers;
       expiries = expiries;
+      displacements = 0;
       columns = columns;
       admissions = admissions;
       departures = departures;
     }
 
-abbrev entry : Packet → (above earlier : ℕ) → Entry
-entry p above earlier = record { packet = p; above = above; earlier = earlier }
+abbrev withDisplacements : ℕ → Journal → Journal
+withDisplacements n j =
+    record {
+      time = j .time;
+      stamp = j .stamp;
+      offers = j .offers;
+      expiries = j .expiries;
+      displacements = n;
+      columns = j .columns;
+      admissions = j .admissions;
+      departures = j .departures;
+    }
+
+abbrev entry : Packet → (above earlier ordinal : ℕ) → Entry
+entry p above earlier ordinal = record { packet = p; above = above; earlier = earlier; ordinal = ordinal }
+
+abbrev none : {A : Type 0} → Four A
+none = queues [] [] [] []
 
 abbrev left : Entry → Way → (at : ℕ) → Departure
 left l way at = record { entry = l; way = way; at = at }
@@ -265,26 +314,26 @@ unfolding of-runs
 book es = journalOf (opened 5) es
 
 -- "At first: time 0, make's stamp, columns empty."
-first-page : book [] ≡ page 0 5 0 0 (queues [] [] [] []) [] []
+first-page : book [] ≡ page 0 5 none 0 none [] []
 unfolding book
 first-page = refl
 
 -- "An offer then writes its packet, with the book's time as its arrival, at the foot of its priority's column; those above it are
--- the k before it."
+-- the k before it."; which offer of its priority it is
 abbrev first : Entry
-first = entry (packet 1 0 11 20 1) 0 0
+first = entry (packet 1 0 11 20 1) 0 0 1
 
 abbrev second : Entry
-second = entry (packet 2 0 12 10 2) 1 0
+second = entry (packet 2 0 12 10 2) 1 0 2
 
 abbrev third : Entry
-third = entry (packet 3 1 13 10 2) 0 0
+third = entry (packet 3 1 13 10 2) 0 0 1
 
 abbrev fourth : Entry
-fourth = entry (packet 4 2 14 10 3) 0 0
+fourth = entry (packet 4 2 14 10 3) 0 0 1
 
 abbrev fifth : Entry
-fifth = entry (packet 5 3 15 10 3) 0 0
+fifth = entry (packet 5 3 15 10 3) 0 0 1
 
 abbrev fiveOffers : List (Call × Answer)
 fiveOffers =
@@ -298,7 +347,15 @@ fiveOffers =
 abbrev fiveEntries : Four Entry
 fiveEntries = queues (first ∷ second ∷ []) (third ∷ []) (fourth ∷ []) (fifth ∷ [])
 
-offers-written : book fiveOffers ≡ page 3 8 5 0 fiveEntries [] []
+-- the offers accepted, with more of priority 0 and of priority 2 behind them, the newest first
+abbrev fiveAnd : (more0 more2 : List Packet) → Four Packet
+fiveAnd more0 more2 =
+    queues (more0 ++ second .packet ∷ first .packet ∷ []) (third .packet ∷ []) (more2 ++ fourth .packet ∷ []) (fifth .packet ∷ [])
+
+abbrev fivePackets : Four Packet
+fivePackets = fiveAnd [] []
+
+offers-written : book fiveOffers ≡ page 3 8 fivePackets 0 fiveEntries [] []
 unfolding book
 offers-written = refl
 
@@ -311,7 +368,7 @@ refused-unfed :
     ∷ (offering 30 6 0 1 1, Refused 8)
     ∷ (poll 4, Refused 2)
     ∷ [])
-    ≡ page 3 8 5 0 fiveEntries [] []
+    ≡ page 3 8 fivePackets 0 fiveEntries [] []
 unfolding book
 refused-unfed = refl
 
@@ -319,30 +376,30 @@ refused-unfed = refl
 -- all are past their lifetimes
 sample-turns :
     map (λ (e : Call × Answer). book (fiveOffers ++ e ∷ [])) ((words 103 [], Taken) ∷ (count 103 7, Taken) ∷ [])
-    ≡ map (λ (n : ℕ). page n 103 5 0 fiveEntries [] []) (98 ∷ 98 ∷ [])
+    ≡ map (λ (n : ℕ). page n 103 fivePackets 0 fiveEntries [] []) (98 ∷ 98 ∷ [])
 unfolding book
 sample-turns = refl
 
 steps :
-    map (λ (n : ℕ). turned (page 9 4294967290 0 0 (queues [] [] [] []) [] []) n .time) (4294967291 ∷ 4 ∷ 4294967289 ∷ [])
+    map (λ (n : ℕ). turned (page 9 4294967290 none 0 none [] []) n .time) (4294967291 ∷ 4 ∷ 4294967289 ∷ [])
     ≡ 10 ∷ 19 ∷ 4294967304 ∷ []
 steps = refl
 
 -- "An offer or poll then strikes each packet whose time since its offer is at least its lifetime; it leaves by expiry."
-not-yet-at-11 : book (fiveOffers ++ (poll 16, Closed 1) ∷ []) ≡ page 11 16 5 0 fiveEntries [] []
+not-yet-at-11 : book (fiveOffers ++ (poll 16, Closed 1) ∷ []) ≡ page 11 16 fivePackets 0 fiveEntries [] []
 unfolding book
 not-yet-at-11 = refl
 
 struck-at-12 :
     book (fiveOffers ++ (poll 17, Idle) ∷ [])
-    ≡ page 12 17 5 2 (queues (first ∷ []) [] (fourth ∷ []) (fifth ∷ [])) []
+    ≡ page 12 17 fivePackets 2 (queues (first ∷ []) [] (fourth ∷ []) (fifth ∷ [])) []
     (left second expiry 12 ∷ left third expiry 12 ∷ [])
 unfolding book
 struck-at-12 = refl
 
 struck-by-an-offer :
     book (fiveOffers ++ (offering 18 6 0 16 9, Taken) ∷ [])
-    ≡ page 13 18 6 4 (queues (first ∷ entry (packet 6 0 16 9 13) 1 0 ∷ []) [] [] []) []
+    ≡ page 13 18 (fiveAnd (packet 6 0 16 9 13 ∷ []) []) 4 (queues (first ∷ entry (packet 6 0 16 9 13) 1 0 3 ∷ []) [] [] []) []
     (left second expiry 13 ∷ left third expiry 13 ∷ left fourth expiry 13 ∷ left fifth expiry 13 ∷ [])
 unfolding book
 struck-by-an-offer = refl
@@ -354,7 +411,7 @@ sent stamp = (poll stamp, Sent (packet 0 0 0 0 0))
 
 sent-all :
     book (fiveOffers ++ sent 9 ∷ sent 10 ∷ sent 11 ∷ sent 12 ∷ sent 13 ∷ [])
-    ≡ page 8 13 5 0 (queues [] [] [] [])
+    ≡ page 8 13 fivePackets 0 none
     (admittedAt 8 15 ∷ admittedAt 7 14 ∷ admittedAt 6 13 ∷ admittedAt 5 12 ∷ admittedAt 4 11 ∷ [])
     (left fifth (admission 5) 8
     ∷ left fourth (admission 4) 7
@@ -368,7 +425,8 @@ sent-all = refl
 -- the entry of an offer behind an admission
 sent-and-offered :
     book (fiveOffers ++ sent 9 ∷ (offering 10 6 0 16 9, Taken) ∷ [])
-    ≡ page 5 10 6 0 (queues (second ∷ entry (packet 6 0 16 9 5) 1 1 ∷ []) (third ∷ []) (fourth ∷ []) (fifth ∷ []))
+    ≡ page 5 10 (fiveAnd (packet 6 0 16 9 5 ∷ []) []) 0
+    (queues (second ∷ entry (packet 6 0 16 9 5) 1 1 3 ∷ []) (third ∷ []) (fourth ∷ []) (fifth ∷ []))
     (admittedAt 4 11 ∷ []) (left first (admission 1) 4 ∷ [])
 unfolding book
 sent-and-offered = refl
@@ -376,8 +434,8 @@ sent-and-offered = refl
 -- the top packet is that of the columns once the expired are struck
 struck-then-sent :
     book (fiveOffers ++ (offering 20 6 2 16 99, Taken) ∷ sent 26 ∷ [])
-    ≡ page 21 26 6 5 (queues [] [] [] []) (admittedAt 21 16 ∷ [])
-    (left (entry (packet 6 2 16 99 15) 0 0) (admission 1) 21
+    ≡ page 21 26 (fiveAnd [] (packet 6 2 16 99 15 ∷ [])) 5 none (admittedAt 21 16 ∷ [])
+    (left (entry (packet 6 2 16 99 15) 0 0 2) (admission 1) 21
     ∷ left first expiry 21
     ∷ left second expiry 15
     ∷ left third expiry 15
@@ -386,6 +444,59 @@ struck-then-sent :
     ∷ [])
 unfolding book
 struck-then-sent = refl
+
+-- "an accepted offer that, once the expired are struck, finds five in its column strikes the top one, as displaced, and then
+-- writes its own" (W-205): five of priority 1 and one of priority 0 wait; at 3 one more of priority 1 comes
+abbrev nth : (n lifetime arrival above : ℕ) → Entry
+nth n lifetime arrival above = entry (packet n 1 1 lifetime arrival) above 0 n
+
+abbrev sixWaiting : (lifetime : ℕ) → List (Call × Answer)
+sixWaiting lifetime =
+    (offering 6 9 0 1 99, Taken)
+    ∷ (offering 6 1 1 1 99, Taken)
+    ∷ (offering 6 2 1 1 99, Taken)
+    ∷ (offering 6 3 1 1 lifetime, Taken)
+    ∷ (offering 6 4 1 1 99, Taken)
+    ∷ (offering 6 5 1 1 99, Taken)
+    ∷ []
+
+abbrev other : Entry
+other = entry (packet 9 0 1 99 1) 0 0 1
+
+abbrev packetsOf : List Entry → List Packet
+packetsOf ls = map (λ (l : Entry). l .packet) ls
+
+displaced-from-the-top :
+    book (sixWaiting 99 ++ (offering 8 6 1 1 99, Taken) ∷ [])
+    ≡ withDisplacements 1
+    (page 3 8
+    (queues (other .packet ∷ [])
+    (packetsOf (nth 6 99 3 4 ∷ nth 5 99 1 4 ∷ nth 4 99 1 3 ∷ nth 3 99 1 2 ∷ nth 2 99 1 1 ∷ nth 1 99 1 0 ∷ [])) [] [])
+    0
+    (queues (other ∷ []) (nth 2 99 1 1 ∷ nth 3 99 1 2 ∷ nth 4 99 1 3 ∷ nth 5 99 1 4 ∷ nth 6 99 3 4 ∷ []) [] [])
+    [] (left (nth 1 99 1 0) (displacement 1 6) 3 ∷ []))
+unfolding book
+displaced-from-the-top = refl
+
+-- one of the five has expired by then: nothing is displaced
+expired-not-displaced :
+    book (sixWaiting 2 ++ (offering 8 6 1 1 99, Taken) ∷ [])
+    ≡ page 3 8
+    (queues (other .packet ∷ [])
+    (packetsOf (nth 6 99 3 4 ∷ nth 5 99 1 4 ∷ nth 4 99 1 3 ∷ nth 3 2 1 2 ∷ nth 2 99 1 1 ∷ nth 1 99 1 0 ∷ [])) [] [])
+    1
+    (queues (other ∷ []) (nth 1 99 1 0 ∷ nth 2 99 1 1 ∷ nth 4 99 1 3 ∷ nth 5 99 1 4 ∷ nth 6 99 3 4 ∷ []) [] [])
+    [] (left (nth 3 2 1 2) expiry 3 ∷ [])
+unfolding book
+expired-not-displaced = refl
+
+-- an offer of another priority, or one that is refused, finds no five in its column: nothing is displaced
+none-displaced :
+    map (λ (e : Call × Answer). book (sixWaiting 99 ++ e ∷ []) .displacements)
+    ((offering 8 6 0 1 99, Taken) ∷ (offering 8 6 2 1 99, Taken) ∷ (offering 8 6 1 1 99, Refused 8) ∷ (poll 8, Closed 1) ∷ [])
+    ≡ 0 ∷ 0 ∷ 0 ∷ 0 ∷ []
+unfolding book
+none-displaced = refl
 
 -- "in any window": from a moment to w µs later, both ends counted (R14 of docs/DECISIONS.md)
 window :
@@ -396,13 +507,23 @@ window = refl
 
 -- "no later than with the (k+1)th admission after it came": 2 came before it and 3 stood above it
 abbrev sixth : Entry
-sixth = entry (packet 1 0 11 10 1) 3 2
+sixth = entry (packet 1 0 11 10 1) 3 2 7
 
 in-turn : InTurn sixth (admission 6)
 in-turn = omega arith
 
 out-of-turn : InTurn sixth (admission 7) → ⊥
 out-of-turn h = omega arith
+
+-- displaced only by the fifth or a later accepted offer of its own priority after it came: it was the 7th
+by-the-fifth : ByTheFifth sixth (displacement 0 12)
+by-the-fifth = (refl, omega arith)
+
+not-by-the-fourth : ByTheFifth sixth (displacement 0 11) → ⊥
+not-by-the-fourth h = omega (arith, h .1)
+
+not-of-another : ByTheFifth sixth (displacement 1 12) → ⊥
+not-of-another h = omega (arith, h .0)
 
 -- all of a list, and one of it
 both-of-two : {A : Type 0} (P : A → Type 0) (a b : A) → All P (a ∷ b ∷ []) → P a × P b
@@ -412,20 +533,23 @@ one-of-two : {A : Type 0} (a b : A) → Among a (a ∷ b ∷ []) × Among b (a �
 one-of-two a b = (inl refl, inr (inl refl))
 
 -- (k + 1) × (quiet + p), with two above it
-longest-of-three : longestWait 2 500 (entry (packet 1 0 11 10 1) 2 7) ≡ 3003000
+longest-of-three : longestWait 2 500 (entry (packet 1 0 11 10 1) 2 7 8) ≡ 3003000
 unfolding of-runs
 longest-of-three = refl
 
 -- "accepted polls come at most p µs apart for as long as it waits": SENT, IDLE and CLOSED are accepted polls; a refused call is
 -- no call of the book's, other calls come between, and once it is gone polls may stay away
-last-polls : map (λ (a : Answer). lastPoll 3 a (page 9 0 0 0 (queues [] [] [] []) [] [])) answers ≡ 3 ∷ 3 ∷ 9 ∷ 9 ∷ 9 ∷ 3 ∷ []
+last-polls : map (λ (a : Answer). lastPoll 3 a (page 9 0 none 0 none [] [])) answers ≡ 3 ∷ 3 ∷ 9 ∷ 9 ∷ 9 ∷ 3 ∷ []
 last-polls = refl
 
 abbrev alone : Entry
-alone = entry (packet 1 0 11 100 1) 0 0
+alone = entry (packet 1 0 11 100 1) 0 0 1
+
+abbrev onlyOne : Journal
+onlyOne = page 1 6 (queues (alone .packet ∷ []) [] [] []) 0 (queues (alone ∷ []) [] [] []) [] []
 
 polled-every-10 :
-    PolledEvery 10 alone 1 (page 1 6 1 0 (queues (alone ∷ []) [] [] []) [] [])
+    PolledEvery 10 alone 1 onlyOne
     ((poll 16, Closed 9)
     ∷ (poll 2, Refused 2)
     ∷ (count 20 0, Taken)
@@ -442,3 +566,56 @@ polled-every-10 = (
     (λ w. omega arith, (λ w. omega arith, (λ w. omega arith, (λ w. omega arith, (λ w. absurd w, tt))))),
   ),
 )
+
+-- "fewer than five offers of priority 0 are accepted while it waits": four are; others of another priority, refused, or once it
+-- is gone do not count
+abbrev fourMore : List (Call × Answer)
+fourMore =
+    (offering 6 2 0 1 99, Taken)
+    ∷ (offering 6 3 0 1 99, Taken)
+    ∷ (offering 6 4 1 1 99, Taken)
+    ∷ (offering 6 5 0 1 99, Taken)
+    ∷ (offering 6 6 0 1 99, Taken)
+    ∷ []
+
+abbrev fourBehind : List Entry
+fourBehind =
+    entry (packet 2 0 1 99 1) 1 0 2
+    ∷ entry (packet 3 0 1 99 1) 2 0 3
+    ∷ entry (packet 5 0 1 99 1) 3 0 4
+    ∷ entry (packet 6 0 1 99 1) 4 0 5
+    ∷ []
+
+later : All (λ (l : Entry). 1 < l .ordinal) fourBehind
+later = (omega arith, (omega arith, (omega arith, (omega arith, tt))))
+
+gone : (ls : List Entry) → All (λ (l : Entry). 1 < l .ordinal) ls → Among alone ls → ⊥
+gone ls h there = omega (arith, all-of (λ (l : Entry). 1 < l .ordinal) alone ls h there)
+
+four-of-priority-0 :
+    FewerThanFive alone onlyOne
+    (fourMore ++ (offering 6 7 0 1 99, Refused 8) ∷ sent 7 ∷ (offering 7 8 0 1 99, Taken) ∷ [])
+unfolding of-runs
+four-of-priority-0 = (
+  λ w. omega arith,
+  (
+    λ w. omega arith,
+    (
+      λ w. omega arith,
+      (
+        λ w. omega arith,
+        (
+          λ w. omega arith,
+          (
+            λ w. omega arith,
+            (λ w. omega arith, (λ w. absurd (gone fourBehind later w), tt)),
+          ),
+        ),
+      ),
+    ),
+  ),
+)
+
+five-of-priority-0 : FewerThanFive alone onlyOne (fourMore ++ (offering 6 7 0 1 99, Taken) ∷ []) → ⊥
+unfolding of-runs
+five-of-priority-0 h = omega (arith, h .1 .1 .1 .1 .1 .0 (inl refl))

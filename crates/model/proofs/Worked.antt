@@ -2,7 +2,7 @@
 -- computes to the other, so a definition that is read otherwise fails here.
 use Prim.Native.Nat.{ℕ, _+_}
 use mathlib.Core.Path.{_≡_, refl}
-use mathlib.Core.List.{List, [], _∷_, map}
+use mathlib.Core.List.{List, [], _∷_, _++_, map}
 use Rattle.rules.specs.Refusals.{Check}
 use Rattle.control.specs.Control.{Control}
 use Rattle.model.specs.declared.Packet.{Packet}
@@ -28,8 +28,13 @@ clockAt time stamp = record { time = time; stamp = stamp }
 abbrev pub lastAt : (at ontime admitted : ℕ) → Last
 lastAt at ontime admitted = record { at = at; ontime = ontime; admitted = admitted }
 
+-- none displaced
 abbrev pub counted : (accepted sent expired : ℕ) → Counts
-counted accepted sent expired = record { accepted = accepted; sent = sent; expired = expired }
+counted accepted sent expired = record { accepted = accepted; sent = sent; expired = expired; displaced = 0 }
+
+abbrev pub withDisplaced : (displaced : ℕ) → Counts → Counts
+withDisplaced displaced c =
+    record { accepted = c .accepted; sent = c .sent; expired = c .expired; displaced = displaced }
 
 abbrev pub steered : (profile level duty smoothed kept pairing : ℕ) → Control
 steered profile level duty smoothed kept pairing =
@@ -45,22 +50,43 @@ packet id priority ontime lifetime arrival =
 abbrev pub queues : {A : Type 0} → List A → List A → List A → List A → Four A
 queues a b c d = record { c0 = a; c1 = b; c2 = c; c3 = d }
 
--- a state that is live
+-- a state that is live, of a gate made in the new way; one with another number for its way
 abbrev pub state : Clock → Control → Last → Counts → Four Packet → View
 state clock control last counts waiting =
-    record { live = 1; clock = clock; control = control; last = last; counts = counts; waiting = waiting }
+    record { live = 1; oldway = 0; clock = clock; control = control; last = last; counts = counts; waiting = waiting }
 
+abbrev pub withWay : (oldway : ℕ) → View → View
+withWay oldway v =
+    record {
+      live = v .live;
+      oldway = oldway;
+      clock = v .clock;
+      control = v .control;
+      last = v .last;
+      counts = v .counts;
+      waiting = v .waiting;
+    }
+
+-- in the new way, and in the old one
 abbrev pub making : (profile stamp : ℕ) → Making
-making profile stamp = record { profile = profile; stamp = stamp }
+making profile stamp = record { profile = profile; oldway = 0; stamp = stamp }
+
+abbrev pub makingOld : (profile stamp : ℕ) → Making
+makingOld profile stamp = record { profile = profile; oldway = 1; stamp = stamp }
 
 abbrev pub offering : (stamp id priority ontime lifetime : ℕ) → Call
 offering stamp id priority ontime lifetime =
     offer stamp (record { id = id; priority = priority; ontime = ontime; lifetime = lifetime })
 
--- a gate made at stamp 0; the state after calls, and their answers; the answers of calls each on one state
+-- a gate made at stamp 0, in the new way and in the old one; the state after calls, and their answers; the answers of calls each
+-- on one state
 unfoldable pub made : (profile : ℕ) → View
 unfolding of-runs
 made profile = make (making profile 0) .view
+
+unfoldable pub madeOld : (profile : ℕ) → View
+unfolding of-runs
+madeOld profile = make (makingOld profile 0) .view
 
 unfoldable pub after : View → List Call → View
 unfolding of-runs
@@ -80,7 +106,7 @@ numbersOf : List Check → List ℕ
 unfolding checks
 numbersOf cs = map (λ (c : Check). c .number) cs
 
-order-of-make : (m : Making) → numbersOf (makeChecks m) ≡ 1 ∷ []
+order-of-make : (m : Making) → numbersOf (makeChecks m) ≡ 1 ∷ 1 ∷ []
 unfolding numbersOf
 order-of-make m = refl
 
@@ -128,6 +154,16 @@ profiles :
     ≡ Refused 1 ∷ Ready ∷ Ready ∷ Ready ∷ Refused 1 ∷ []
 unfolding of-runs
 profiles = refl
+
+-- "1 asks for the old way, 0 for the new, any other number is refused with 1" (W-205), in each profile
+ways :
+    map
+    (λ (profile : ℕ). map (λ (n : ℕ). make (record { profile = profile; oldway = n; stamp = 5 }) .answer)
+    (0 ∷ 1 ∷ 2 ∷ 4294967295 ∷ []))
+    (1 ∷ 2 ∷ 3 ∷ [])
+    ≡ map (λ (profile : ℕ). Ready ∷ Ready ∷ Refused 1 ∷ Refused 1 ∷ []) (1 ∷ 2 ∷ 3 ∷ [])
+unfolding of-runs
+ways = refl
 
 -- 2 "A step of 2,147,483,648 or more is the clock going back and is refused; a step of 0 is good."
 half-a-turn : eachOf (made 1) (allAt 2147483648) ≡ allRefused 2
@@ -193,7 +229,8 @@ lifetimes :
 unfolding eachOf made
 lifetimes = refl
 
--- 8 "5 unexpired packets wait in that queue at the new time": five of a priority, which expire at 10, and one more
+-- 8 "5 unexpired packets wait in that queue at the new time": five of a priority, which expire at 10, and one more. "Number 8 is
+-- given only by a gate made in the old way" (W-205)
 abbrev fiveOf : (priority : ℕ) → List Call
 fiveOf priority = map (λ (id : ℕ). offering 0 id priority 1 10) (1 ∷ 2 ∷ 3 ∷ 4 ∷ 5 ∷ [])
 
@@ -201,20 +238,32 @@ five : (priority : ℕ) → View
 unfolding after made
 five priority = after (made 1) (fiveOf priority)
 
-five-fit : answersOf (made 1) (fiveOf 2) ≡ Taken ∷ Taken ∷ Taken ∷ Taken ∷ Taken ∷ []
-unfolding answersOf made
+fiveOld : (priority : ℕ) → View
+unfolding after madeOld
+fiveOld priority = after (madeOld 1) (fiveOf priority)
+
+five-fit :
+    answersOf (made 1) (fiveOf 2) ∷ answersOf (madeOld 1) (fiveOf 2) ∷ []
+    ≡ map (λ (n : ℕ). Taken ∷ Taken ∷ Taken ∷ Taken ∷ Taken ∷ []) (0 ∷ 1 ∷ [])
+unfolding answersOf made madeOld
 five-fit = refl
 
 full-until-10 :
-    map (λ (n : ℕ). eachOf (five n) (offering 9 6 n 1 10 ∷ offering 10 6 n 1 10 ∷ [])) (0 ∷ 1 ∷ 2 ∷ 3 ∷ [])
+    map (λ (n : ℕ). eachOf (fiveOld n) (offering 9 6 n 1 10 ∷ offering 10 6 n 1 10 ∷ [])) (0 ∷ 1 ∷ 2 ∷ 3 ∷ [])
     ≡ map (λ (n : ℕ). Refused 8 ∷ Taken ∷ []) (0 ∷ 1 ∷ 2 ∷ 3 ∷ [])
-unfolding eachOf five
+unfolding eachOf fiveOld
 full-until-10 = refl
 
 full-by-itself :
-    eachOf (five 1) (map (λ (n : ℕ). offering 9 6 n 1 10) (0 ∷ 1 ∷ 2 ∷ 3 ∷ [])) ≡ Taken ∷ Refused 8 ∷ Taken ∷ Taken ∷ []
-unfolding eachOf five
+    eachOf (fiveOld 1) (map (λ (n : ℕ). offering 9 6 n 1 10) (0 ∷ 1 ∷ 2 ∷ 3 ∷ [])) ≡ Taken ∷ Refused 8 ∷ Taken ∷ Taken ∷ []
+unfolding eachOf fiveOld
 full-by-itself = refl
+
+taken-in-the-new-way :
+    map (λ (n : ℕ). eachOf (five n) (offering 9 6 n 1 10 ∷ offering 10 6 n 1 10 ∷ [])) (0 ∷ 1 ∷ 2 ∷ 3 ∷ [])
+    ≡ map (λ (n : ℕ). Taken ∷ Taken ∷ []) (0 ∷ 1 ∷ 2 ∷ 3 ∷ [])
+unfolding eachOf five
+taken-in-the-new-way = refl
 
 -- 9 "the state isn't sound"
 not-made : eachOf (make (making 0 5) .view) (allAt 0) ≡ allRefused 9
@@ -235,7 +284,7 @@ unfolding eachOf spent allAt
 spent-goes-on = refl
 
 -- a state at 20 in which five of priority 0 wait, one of 1, one of 2 and two of 3; those expire at 22, 23, 119 and 24. Three were
--- sent, the last at 15, and one expired
+-- sent, the last at 15, one expired, and two were displaced
 abbrev five0 : List Packet
 five0 =
     packet 1 0 11 100 10 ∷ packet 2 0 12 100 10 ∷ packet 3 0 13 100 12 ∷ packet 4 0 14 100 13 ∷ packet 5 0 15 100 14 ∷ []
@@ -249,9 +298,12 @@ one2 = packet 7 2 17 5 18 ∷ []
 abbrev two3 : List Packet
 two3 = packet 8 3 18 100 19 ∷ packet 9 3 19 5 19 ∷ []
 
+abbrev twoDisplaced : (accepted sent expired : ℕ) → Counts
+twoDisplaced accepted sent expired = withDisplaced 2 (counted accepted sent expired)
+
 abbrev pub crowded : View
 crowded =
-    state (clockAt 20 3) (steered 1 0 600000 0 0 0) (lastAt 15 400 1) (counted 13 3 1) (queues five0 one1 one2 two3)
+    state (clockAt 20 3) (steered 1 0 600000 0 0 0) (lastAt 15 400 1) (twoDisplaced 15 3 1) (queues five0 one1 one2 two3)
 
 -- "the first that holds is the answer": of neighbours in the order that both hold
 nine-before-two : eachOf (make (making 0 5) .view) (allAt 2147483648) ≡ allRefused 9
@@ -269,20 +321,27 @@ unfolding eachOf timed
 three-before-four-and-five = refl
 
 five-six-seven-eight :
-    eachOf crowded (offering 13 9 4 0 1 ∷ offering 13 9 1 0 0 ∷ offering 13 9 0 1 0 ∷ [])
+    eachOf (withWay 1 crowded) (offering 13 9 4 0 1 ∷ offering 13 9 1 0 0 ∷ offering 13 9 0 1 0 ∷ [])
     ≡ Refused 5 ∷ Refused 6 ∷ Refused 7 ∷ []
 unfolding eachOf
 five-six-seven-eight = refl
 
+-- in the old way; in the new way it is 11 where five wait, and nothing is displaced, expired or moved
+abbrev crowdedAndSpent : View
+crowdedAndSpent = withCounts crowded (twoDisplaced 1000000000000000 999999999999988 1)
+
 eight-before-eleven :
-    eachOf (withCounts crowded (counted 1000000000000000 999999999999991 0)) (offering 13 9 0 1 1 ∷ offering 13 9 1 1 1 ∷ [])
-    ≡ Refused 8 ∷ Refused 11 ∷ []
+    eachOf (withWay 1 crowdedAndSpent) (offering 13 9 0 1 1 ∷ offering 13 9 1 1 1 ∷ []) ≡ Refused 8 ∷ Refused 11 ∷ []
 unfolding eachOf
 eight-before-eleven = refl
 
+eleven-displaces-nothing : call crowdedAndSpent (offering 13 9 0 1 1) ≡ result crowdedAndSpent (Refused 11)
+unfolding of-runs
+eleven-displaces-nothing = refl
+
 -- "A refusal hands back the given state unchanged, clock included."; it "removes nothing from any queue" (R1)
 unchanged :
-    map (λ (c : Call). call crowded c)
+    map (λ (c : Call). call (withWay 1 crowded) c)
     (poll 2
     ∷ words 13 []
     ∷ count 13 1001
@@ -291,7 +350,7 @@ unchanged :
     ∷ offering 13 9 1 1 0
     ∷ offering 13 9 0 1 1
     ∷ [])
-    ≡ map (λ (n : ℕ). result crowded (Refused n)) (2 ∷ 4 ∷ 4 ∷ 5 ∷ 6 ∷ 7 ∷ 8 ∷ [])
+    ≡ map (λ (n : ℕ). result (withWay 1 crowded) (Refused n)) (2 ∷ 4 ∷ 4 ∷ 5 ∷ 6 ∷ 7 ∷ 8 ∷ [])
 unfolding of-runs
 unchanged = refl
 
@@ -299,7 +358,8 @@ unchanged = refl
 sampled-only :
     call crowded (count 113 1000)
     ≡ result
-    (state (clockAt 130 113) (steered 1 1 600000 0 0 0) (lastAt 15 400 1) (counted 13 3 1) (queues five0 one1 one2 two3)) Taken
+    (state (clockAt 130 113) (steered 1 1 600000 0 0 0) (lastAt 15 400 1) (twoDisplaced 15 3 1) (queues five0 one1 one2 two3))
+    Taken
 unfolding of-runs
 sampled-only = refl
 
@@ -309,17 +369,113 @@ sampled-only = refl
 offered :
     call crowded (offering 6 10 3 1000 60000000)
     ≡ result
-    (state (clockAt 23 6) (steered 1 0 600000 0 0 0) (lastAt 15 400 1) (counted 14 3 3)
+    (state (clockAt 23 6) (steered 1 0 600000 0 0 0) (lastAt 15 400 1) (twoDisplaced 16 3 3)
     (queues five0 [] [] (packet 8 3 18 100 19 ∷ packet 9 3 19 5 19 ∷ packet 10 3 1000 60000000 23 ∷ [])))
     Taken
 unfolding of-runs
 offered = refl
 
+-- "where five unexpired packets wait, the front one leaves and the new one joins, and the answer is TAKEN"; "a fourth count,
+-- displaced" (W-205): here those of priorities 1 and 2 have expired, too
+displaced-front :
+    call crowded (offering 6 10 0 1000 60000000)
+    ≡ result
+    (state (clockAt 23 6) (steered 1 0 600000 0 0 0) (lastAt 15 400 1) (withDisplaced 3 (counted 16 3 3))
+    (queues
+    (packet 2 0 12 100 10
+    ∷ packet 3 0 13 100 12
+    ∷ packet 4 0 14 100 13
+    ∷ packet 5 0 15 100 14
+    ∷ packet 10 0 1000 60000000 23
+    ∷ [])
+    [] [] two3))
+    Taken
+unfolding of-runs
+displaced-front = refl
+
+-- "wait" at the new time: where one of the five has expired by then, at the front or not, nothing is displaced
+abbrev fiveWith : (first third : ℕ) → List Packet
+fiveWith first third =
+    packet 1 3 1 first 10 ∷ packet 2 3 1 99 10 ∷ packet 3 3 1 third 10 ∷ packet 4 3 1 99 10 ∷ packet 5 3 1 99 10 ∷ []
+
+abbrev withFive : Counts → List Packet → View
+withFive counts waiting =
+    state (clockAt 20 20) (steered 1 0 600000 0 0 0) (lastAt 0 0 0) counts (queues [] [] [] waiting)
+
+abbrev sixOfPriority3 : Packet
+sixOfPriority3 = packet 6 3 1 9 20
+
+expired-makes-room :
+    map (λ (waiting : List Packet). call (withFive (counted 5 0 0) waiting) (offering 20 6 3 1 9) .view)
+    (fiveWith 11 11 ∷ fiveWith 10 99 ∷ fiveWith 99 10 ∷ fiveWith 10 10 ∷ [])
+    ≡ withFive (withDisplaced 1 (counted 6 0 0))
+    (packet 2 3 1 99 10 ∷ packet 3 3 1 11 10 ∷ packet 4 3 1 99 10 ∷ packet 5 3 1 99 10 ∷ sixOfPriority3 ∷ [])
+    ∷ withFive (counted 6 0 1)
+    (packet 2 3 1 99 10 ∷ packet 3 3 1 99 10 ∷ packet 4 3 1 99 10 ∷ packet 5 3 1 99 10 ∷ sixOfPriority3 ∷ [])
+    ∷ withFive (counted 6 0 1)
+    (packet 1 3 1 99 10 ∷ packet 2 3 1 99 10 ∷ packet 4 3 1 99 10 ∷ packet 5 3 1 99 10 ∷ sixOfPriority3 ∷ [])
+    ∷ withFive (counted 6 0 2)
+    (packet 2 3 1 99 10 ∷ packet 4 3 1 99 10 ∷ packet 5 3 1 99 10 ∷ sixOfPriority3 ∷ [])
+    ∷ []
+unfolding of-runs
+expired-makes-room = refl
+
+-- another priority's queue is left as it is: all four are full, and one more of each priority comes
+abbrev before : (priority : ℕ) → List Packet
+before priority = map (λ (id : ℕ). packet id priority 1 10 0) (1 ∷ 2 ∷ 3 ∷ 4 ∷ 5 ∷ [])
+
+abbrev spilled : (priority : ℕ) → List Packet
+spilled priority = map (λ (id : ℕ). packet id priority 1 10 0) (2 ∷ 3 ∷ 4 ∷ 5 ∷ 6 ∷ [])
+
+allFull : View
+unfolding after made
+allFull = after (made 1) (fiveOf 0 ++ fiveOf 1 ++ fiveOf 2 ++ fiveOf 3)
+
+displaced-of-its-own :
+    map (λ (n : ℕ). after allFull (offering 0 6 n 1 10 ∷ []) .waiting) (0 ∷ 1 ∷ 2 ∷ 3 ∷ [])
+    ≡ queues (spilled 0) (before 1) (before 2) (before 3)
+    ∷ queues (before 0) (spilled 1) (before 2) (before 3)
+    ∷ queues (before 0) (before 1) (spilled 2) (before 3)
+    ∷ queues (before 0) (before 1) (before 2) (spilled 3)
+    ∷ []
+unfolding after allFull
+displaced-of-its-own = refl
+
+-- one is displaced by each offer that comes to a full queue, from the front on; the fifth offer displaces none
+displaced-in-turn :
+    map (λ (cs : List Call). after (made 1) cs .counts)
+    (fiveOf 2 ∷ (fiveOf 2 ++ offering 0 6 2 1 10 ∷ []) ∷ (fiveOf 2 ++ offering 0 6 2 1 10 ∷ offering 0 7 2 1 10 ∷ []) ∷ [])
+    ≡ counted 5 0 0 ∷ withDisplaced 1 (counted 6 0 0) ∷ withDisplaced 2 (counted 7 0 0) ∷ []
+unfolding after made
+displaced-in-turn = refl
+
+third-goes-first :
+    answersOf (five 2) (offering 0 6 2 1 10 ∷ offering 0 7 2 1 10 ∷ poll 0 ∷ []) ≡ Taken ∷ Taken ∷ Sent (packet 3 2 1 10 0) ∷ []
+unfolding answersOf five
+third-goes-first = refl
+
+-- "a yes-or-no fixed at making and held in the state": no call changes it
+same-way :
+    map
+    (λ (v : View). map (λ (c : Call). call v c .view .oldway)
+    (count 6 1000 ∷ offering 6 10 3 1 1 ∷ offering 6 10 0 1 1 ∷ poll 6 ∷ poll 200000 ∷ []))
+    (crowded ∷ withWay 1 crowded ∷ [])
+    ≡ (0 ∷ 0 ∷ 0 ∷ 0 ∷ 0 ∷ []) ∷ (1 ∷ 1 ∷ 1 ∷ 1 ∷ 1 ∷ []) ∷ []
+unfolding of-runs
+same-way = refl
+
+-- the old way where a queue has room: nothing else differs
+offered-in-the-old-way :
+    call (withWay 1 crowded) (offering 6 10 3 1000 60000000)
+    ≡ result (withWay 1 (call crowded (offering 6 10 3 1000 60000000) .view)) Taken
+unfolding of-runs
+offered-in-the-old-way = refl
+
 -- "else CLOSED with the µs left": "Such a poll has moved the clock and removed the expired packets of all four queues." (R5)
 closed-poll :
     call crowded (poll 13)
     ≡ result
-    (state (clockAt 30 13) (steered 1 0 600000 0 0 0) (lastAt 15 400 1) (counted 13 3 4)
+    (state (clockAt 30 13) (steered 1 0 600000 0 0 0) (lastAt 15 400 1) (twoDisplaced 15 3 4)
     (queues five0 [] [] (packet 8 3 18 100 19 ∷ [])))
     (Closed 100385)
 unfolding of-runs
@@ -329,7 +485,7 @@ closed-poll = refl
 idle-poll :
     call crowded (poll 113)
     ≡ result
-    (state (clockAt 130 113) (steered 1 0 600000 0 0 0) (lastAt 15 400 1) (counted 13 3 10) (queues [] [] [] [])) Idle
+    (state (clockAt 130 113) (steered 1 0 600000 0 0 0) (lastAt 15 400 1) (twoDisplaced 15 3 10) (queues [] [] [] [])) Idle
 unfolding of-runs
 idle-poll = refl
 
@@ -338,7 +494,7 @@ idle-poll = refl
 sent-poll :
     call (withLast crowded (lastAt 0 0 0)) (poll 5)
     ≡ result
-    (state (clockAt 22 5) (steered 1 0 600000 0 0 0) (lastAt 22 11 1) (counted 13 4 2)
+    (state (clockAt 22 5) (steered 1 0 600000 0 0 0) (lastAt 22 11 1) (twoDisplaced 15 4 2)
     (queues (packet 2 0 12 100 10 ∷ packet 3 0 13 100 12 ∷ packet 4 0 14 100 13 ∷ packet 5 0 15 100 14 ∷ []) [] one2 two3))
     (Sent (packet 1 0 11 100 10))
 unfolding of-runs

@@ -16,24 +16,32 @@ use Rattle.model.specs.State.{View, withClock, withControl, withLast, wi
 use Rattle.model.specs.Effects.{result}
 use Rattle.model.specs.Gate.{make, call}
 use Rattle.model.proofs.Computing.{of-runs}
-use Rattle.model.proofs.Worked.{clockAt, lastAt, counted, steered, packet, queues, state, making, offering, crowded}
+use Rattle.model.proofs.Worked.{clockAt, lastAt, counted, withDisplaced, steered, packet, queues, state, withWay}
+use Rattle.model.proofs.Worked.{making, makingOld, offering, crowded}
 
 -- "A fresh state: live, last stamp as given to make, running time 0, level 0, duty 600,000, smoothed load 0, no sample kept,
 -- nothing admitted, queues empty.", and nothing counted (W-201)
+abbrev freshState : (profile : ℕ) → View
+freshState n = state (clockAt 0 4294967295) (steered n 0 600000 0 0 0) (lastAt 0 0 0) (counted 0 0 0) (queues [] [] [] [])
+
 fresh-states :
-    map (λ (n : ℕ). make (making n 4294967295)) (1 ∷ 2 ∷ 3 ∷ [])
-    ≡ map
-    (λ (n : ℕ). result
-    (state (clockAt 0 4294967295) (steered n 0 600000 0 0 0) (lastAt 0 0 0) (counted 0 0 0) (queues [] [] [] [])) Ready)
-    (1 ∷ 2 ∷ 3 ∷ [])
+    map (λ (n : ℕ). make (making n 4294967295)) (1 ∷ 2 ∷ 3 ∷ []) ≡ map (λ (n : ℕ). result (freshState n) Ready) (1 ∷ 2 ∷ 3 ∷ [])
 unfolding of-runs
 fresh-states = refl
+
+-- "a yes-or-no fixed at making and held in the state" (W-205)
+fresh-in-the-old-way :
+    map (λ (n : ℕ). make (makingOld n 4294967295)) (1 ∷ 2 ∷ 3 ∷ [])
+    ≡ map (λ (n : ℕ). result (withWay 1 (freshState n)) Ready) (1 ∷ 2 ∷ 3 ∷ [])
+unfolding of-runs
+fresh-in-the-old-way = refl
 
 -- "Make's refusal hands back the all-zero, not live state."
 abbrev allZero : View
 allZero =
     record {
       live = 0;
+      oldway = 0;
       clock = clockAt 0 0;
       control = steered 0 0 0 0 0 0;
       last = lastAt 0 0 0;
@@ -41,15 +49,20 @@ allZero =
       waiting = queues [] [] [] [];
     }
 
-not-live : map (λ (n : ℕ). make (making n 5)) (0 ∷ 4 ∷ []) ≡ result allZero (Refused 1) ∷ result allZero (Refused 1) ∷ []
+not-live :
+    map make (making 0 5 ∷ making 4 5 ∷ makingOld 0 5 ∷ record { profile = 1; oldway = 2; stamp = 5 } ∷ [])
+    ≡ map (λ (n : ℕ). result allZero (Refused n)) (1 ∷ 1 ∷ 1 ∷ 1 ∷ [])
 unfolding of-runs
 not-live = refl
 
--- a state of profile 3 at 100 that has a sample kept, something admitted and packets in two queues; whether a state is sound, and
--- whether this one is with one part in place of its own
+-- a state of profile 3 at 100 that has a sample kept, something admitted, one displaced and packets in two queues; whether a
+-- state is sound, and whether this one is with one part in place of its own
+abbrev oneDisplaced : (accepted sent expired : ℕ) → Counts
+oneDisplaced accepted sent expired = withDisplaced 1 (counted accepted sent expired)
+
 abbrev good : View
 good =
-    state (clockAt 100 7) (steered 3 2 700000 5 400000 1) (lastAt 90 4000 1) (counted 4 1 1)
+    state (clockAt 100 7) (steered 3 2 700000 5 400000 1) (lastAt 90 4000 1) (oneDisplaced 5 1 1)
     (queues [] (packet 7 1 4000 60000000 95 ∷ []) [] (packet 8 3 1 1 100 ∷ []))
 
 isSound : View → Bool
@@ -62,6 +75,7 @@ ofLive live =
     isSound
     (record {
       live = live;
+      oldway = good .oldway;
       clock = good .clock;
       control = good .control;
       last = good .last;
@@ -94,6 +108,11 @@ ofQueue ps = isSound (withCounts (withWaiting good (queues [] ps [] [])) (counte
 sound-live : map ofLive (0 ∷ 1 ∷ 2 ∷ []) ≡ false ∷ true ∷ false ∷ []
 unfolding ofLive
 sound-live = refl
+
+-- the way is a "yes-or-no" (W-205)
+sound-way : map (λ (n : ℕ). isSound (withWay n good)) (0 ∷ 1 ∷ 2 ∷ []) ≡ true ∷ true ∷ false ∷ []
+unfolding isSound
+sound-way = refl
 
 sound-profile : map (λ (n : ℕ). ofControl (steered n 2 700000 5 0 0)) (0 ∷ 3 ∷ 4 ∷ []) ≡ false ∷ true ∷ false ∷ []
 unfolding ofControl
@@ -215,27 +234,41 @@ each-queue-judged :
 unfolding judged
 each-queue-judged = refl
 
--- "A state whose counts don't add up, or with accepted above 10^15, isn't sound." (W-201): two wait; "a sum that holds only
--- modulo 2^64 is none" (R17)
+-- "A state whose counts don't add up, or with accepted above 10^15, isn't sound." (W-201); "W-201's sum gains a fourth count,
+-- displaced" (W-205): two wait; "a sum that holds only modulo 2^64 is none" (R17)
 sound-counts :
     map ofCounts
-    (counted 4 1 1 ∷ counted 5 1 1 ∷ counted 3 1 1 ∷ counted 4 0 1 ∷ counted 4 2 1 ∷ counted 4 1 0 ∷ counted 4 1 2 ∷ [])
+    (oneDisplaced 5 1 1
+    ∷ oneDisplaced 6 1 1
+    ∷ oneDisplaced 4 1 1
+    ∷ oneDisplaced 5 0 1
+    ∷ oneDisplaced 5 2 1
+    ∷ oneDisplaced 5 1 0
+    ∷ oneDisplaced 5 1 2
+    ∷ [])
     ≡ true ∷ false ∷ false ∷ false ∷ false ∷ false ∷ false ∷ []
 unfolding ofCounts
 sound-counts = refl
 
+sound-displaced : map (λ (n : ℕ). ofCounts (withDisplaced n (counted 5 1 1))) (0 ∷ 1 ∷ 2 ∷ []) ≡ false ∷ true ∷ false ∷ []
+unfolding ofCounts
+sound-displaced = refl
+
 most-accepted :
-    map ofCounts (counted 1000000000000000 999999999999991 7 ∷ counted 1000000000000001 999999999999992 7 ∷ [])
+    map ofCounts (oneDisplaced 1000000000000000 999999999999990 7 ∷ oneDisplaced 1000000000000001 999999999999991 7 ∷ [])
     ≡ true ∷ false ∷ []
 unfolding ofCounts
 most-accepted = refl
 
-not-modulo : map ofCounts (counted 0 18446744073709551613 1 ∷ []) ≡ false ∷ []
+not-modulo :
+    map ofCounts (oneDisplaced 0 18446744073709551612 1 ∷ withDisplaced 18446744073709551613 (counted 0 1 0) ∷ [])
+    ≡ false ∷ false ∷ []
 unfolding ofCounts
 not-modulo = refl
 
 -- "Some states are odd and still sound: profiles 1 and 2 with any duty in range and any smoothed load up to 1,000,000; profile
--- 3 with level 1 to 4; packets that wait though they have expired" (R3); "Sent above 0 with nothing admitted" (R17)
+-- 3 with level 1 to 4; packets that wait though they have expired" (R3); "Sent above 0 with nothing admitted" (R17); a gate made
+-- in the old way that has displaced some, as no rule forbids it
 odd-but-sound :
     map isSound
     (withControl crowded (steered 1 4 30000000 1000000 0 0)
@@ -243,8 +276,9 @@ odd-but-sound :
     ∷ withControl good (steered 3 4 600000 0 0 0)
     ∷ withClock crowded (clockAt 60000100 3)
     ∷ withLast crowded (lastAt 0 0 0)
+    ∷ withWay 1 crowded
     ∷ [])
-    ≡ true ∷ true ∷ true ∷ true ∷ true ∷ []
+    ≡ true ∷ true ∷ true ∷ true ∷ true ∷ true ∷ []
 unfolding isSound
 odd-but-sound = refl
 

@@ -25,9 +25,11 @@ stampOf (count stamp busy) = stamp
 stampOf (offer stamp o) = stamp
 stampOf (poll stamp) = stamp
 
--- make's arguments: the profile, and "last stamp as given to make"
+-- make's arguments: the profile; whether the gate is "made in the old way, a yes-or-no fixed at making"
+-- (document 02, W-205), 1 or 0; and "last stamp as given to make"
 pub record Making : Type 0 where
   pub profile : ℕ
+  pub oldway : ℕ
   pub stamp : ℕ
 
 -- "Where an answer is an enum, a definition gives this paper's number and values for each of its cases."

@@ -16,8 +16,8 @@ use Rattle.model.specs.Fours.{each, howMany}
 use Rattle.model.specs.Calls.{Call, poll, Making, isRefused}
 use Rattle.model.specs.State.{Status, View, sound}
 use Rattle.model.specs.Gate.{make, call}
-use Rattle.model.specs.Journal.{Entry, Admission, Way, expiry, admission, Departure, Journal}
-use Rattle.model.specs.Journal.{opened, turned, atPoll, top, journalOf, airTime}
+use Rattle.model.specs.Journal.{Entry, Admission, Way, expiry, displacement, admission, Departure}
+use Rattle.model.specs.Journal.{Journal, opened, turned, atPoll, top, journalOf, airTime}
 
 -- the state after a list of calls
 unfoldable pub viewAfter : {h : Holding} → Status h → List Call → Status h
@@ -34,10 +34,18 @@ abbrev pub All : {A : Type 0} → (A → Type 0) → List A → Type 0
 All P [] = Unit {0}
 All P (a ∷ l) = P a × All P l
 
--- "leaves by expiry or no later than with the (k+1)th admission after it came"
+-- "leaves by expiry, by displacement, or no later than with the (k+1)th admission after it came"
+-- (document 02, W-205)
 abbrev pub InTurn : Entry → Way → Type 0
 InTurn l expiry = Unit {0}
+InTurn l (displacement priority n) = Unit {0}
 InTurn l (admission n) = n ≤ l .earlier + suc (l .above)
+
+-- displaced only by the fifth or a later accepted offer of its own priority after it came
+abbrev pub ByTheFifth : Entry → Way → Type 0
+ByTheFifth l expiry = Unit {0}
+ByTheFifth l (displacement priority n) = (priority ≡ l .packet .priority) × (l .ordinal + 5 ≤ n)
+ByTheFifth l (admission n) = Unit {0}
 
 -- the last admission that a view has is the journal's newest
 abbrev pub Newest : Last → List Admission → Type 0
@@ -54,9 +62,16 @@ pub record Claims (profile : ℕ) (v : View) (j : Journal) : Type 0 where
   pub admissions : Newest (v .last) (j .admissions)
   -- "each count equals the number of such events in the run" (document 02, W-201)
   pub counts :
-      v .counts ≡ record { accepted = j .offers; sent = length (j .admissions); expired = j .expiries }
-  -- "accepted equals sent plus expired plus the packets waiting"
-  pub adds-up : v .counts .accepted ≡ v .counts .sent + v .counts .expired + howMany (v .waiting)
+      v .counts
+      ≡ record {
+        accepted = howMany (j .offers);
+        sent = length (j .admissions);
+        expired = j .expiries;
+        displaced = j .displacements;
+      }
+  -- "accepted equals sent plus expired plus the packets waiting"; "a fourth count, displaced" (W-205)
+  pub adds-up :
+      v .counts .accepted ≡ v .counts .sent + v .counts .expired + v .counts .displaced + howMany (v .waiting)
   -- the ceiling: "in any window of W µs, 100 x air time admitted ≤ 3 W + 400,000"
   pub ceiling : claimsCeiling profile ≡ true
       → (from w : ℕ) → 100 * airTime from w (j .admissions) ≤ 3 * w + spare
@@ -71,9 +86,13 @@ pub record Claims (profile : ℕ) (v : View) (j : Journal) : Type 0 where
       → (l : Entry) × (top (atPoll j stamp .columns) ≡ l ∷ []) × (l .packet ≡ p)
   -- "A packet of priority 0 still there .. has seen at most k admissions"
   pub still-there : All (λ (l : Entry). length (j .admissions) ≤ l .earlier + l .above) (j .columns .c0)
-  -- a packet of priority 0 leaves by expiry, or no later than with the (k+1)th admission after it came
+  -- a packet of priority 0 leaves by expiry, by displacement, or no later than with the (k+1)th admission
+  -- after it came
   pub leaving :
       All (λ (d : Departure). d .entry .packet .priority ≡ 0 → InTurn (d .entry) (d .way)) (j .departures)
+  -- a packet of any priority is displaced only by the fifth or a later accepted offer of its own priority
+  -- after it came, whatever k was
+  pub displacing : All (λ (d : Departure). ByTheFifth (d .entry) (d .way)) (j .departures)
 
 -- "a make that isn't refused, then any list of samples .., offers and polls"
 abbrev pub Demand3 : Type 0
@@ -81,6 +100,20 @@ Demand3 =
     (m : Making) (calls : List Call) → make m .answer ≡ Ready
     → Claims (m .profile) (viewAfter (make m .view) calls)
     (journalOf (opened (m .stamp)) (events (make m .view) calls))
+
+-- not by displacement
+abbrev pub NotDisplaced : Way → Type 0
+NotDisplaced expiry = Unit {0}
+NotDisplaced (displacement priority n) = ⊥
+NotDisplaced (admission n) = Unit {0}
+
+-- "a gate made in the old way" (document 02, W-205) displaces nothing: no packet leaves so, none is counted
+abbrev pub OldWayDisplacesNothing : Type 0
+OldWayDisplacesNothing =
+    (m : Making) (calls : List Call) → make m .answer ≡ Ready → m .oldway ≡ 1
+    → All (λ (d : Departure). NotDisplaced (d .way))
+    (journalOf (opened (m .stamp)) (events (make m .view) calls) .departures)
+    × (viewAfter (make m .view) calls .counts .displaced ≡ 0)
 
 -- so every prefix of a run is a run, and the claims hold at every point of it
 abbrev pub RunsAreTheirParts : Type 0

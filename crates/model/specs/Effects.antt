@@ -2,8 +2,9 @@
 use Prim.Native.Nat.{ℕ, _+_, _-_}
 use mathlib.Core.Bool.{Bool, cond, _&&_}
 use mathlib.Core.List.{List}
-use lib.Dec.{ltb, eqb}
+use lib.Dec.{leb, ltb, eqb}
 use Rattle.rules.specs.Clock.{stepOf}
+use Rattle.rules.specs.Profiles.{room}
 use Rattle.rules.specs.Samples.{probes, busyOf, loadOf}
 use Rattle.control.specs.Control.{sampled}
 use Rattle.control.specs.Wait.{closedAfter}
@@ -37,15 +38,23 @@ moved v stamp = withClock v (stepped (v .clock) stamp)
 abbrev pub sampledBy : {h : Holding} → Status h → (stamp busy : ℕ) → Status h
 sampledBy v stamp busy = withControl (moved v stamp) (sampled (v .control) (loadOf busy))
 
--- one more offer accepted, one more packet sent, some more expired (document 02, W-201)
+-- one more offer accepted, one more packet sent, some more expired (document 02, W-201), one more displaced
+-- (W-205)
 abbrev pub oneAccepted : Counts → Counts
-oneAccepted c = record { accepted = c .accepted + 1; sent = c .sent; expired = c .expired }
+oneAccepted c =
+    record { accepted = c .accepted + 1; sent = c .sent; expired = c .expired; displaced = c .displaced }
 
 abbrev pub oneSent : Counts → Counts
-oneSent c = record { accepted = c .accepted; sent = c .sent + 1; expired = c .expired }
+oneSent c =
+    record { accepted = c .accepted; sent = c .sent + 1; expired = c .expired; displaced = c .displaced }
 
 abbrev pub moreExpired : Counts → ℕ → Counts
-moreExpired c n = record { accepted = c .accepted; sent = c .sent; expired = c .expired + n }
+moreExpired c n =
+    record { accepted = c .accepted; sent = c .sent; expired = c .expired + n; displaced = c .displaced }
+
+abbrev pub oneDisplaced : Counts → Counts
+oneDisplaced c =
+    record { accepted = c .accepted; sent = c .sent; expired = c .expired; displaced = c .displaced + 1 }
 
 -- those that wait, without the expired
 abbrev pub stillWaiting : {h : Holding} → Status h → h .Held
@@ -62,6 +71,19 @@ expired v = withCounts (withWaiting v (stillWaiting v)) (moreExpired (v .counts)
 -- "An accepted offer or poll first moves the clock, then removes every expired packet."
 abbrev pub refreshed : {h : Holding} → Status h → (stamp : ℕ) → Status h
 refreshed v stamp = expired (moved v stamp)
+
+-- "where five unexpired packets wait" of a priority (document 02, W-205), once the expired are removed
+abbrev pub isFull : {h : Holding} → Status h → (priority : ℕ) → Bool
+isFull {h} v priority = leb room (h .ofPriority priority (v .waiting))
+
+-- "the front one leaves", and counts as displaced
+abbrev pub displaced : {h : Holding} → Status h → (priority : ℕ) → Status h
+displaced {h} v priority =
+    withCounts (withWaiting v (h .spill priority (v .waiting))) (oneDisplaced (v .counts))
+
+-- "where five unexpired packets wait, the front one leaves"; else all stay
+abbrev pub roomMade : {h : Holding} → Status h → (priority : ℕ) → Status h
+roomMade v priority = cond (isFull v priority) (displaced v priority) v
 
 -- "An offer then joins the back of its priority's queue"
 abbrev pub joined : {h : Holding} → Status h → Packet → Status h
@@ -97,5 +119,7 @@ unfoldable pub effect : {h : Holding} → Status h → Call → Result h
 effect v (words stamp ws) = result (sampledBy v stamp (busyOf ws probes)) Taken
 effect v (count stamp busy) = result (sampledBy v stamp busy) Taken
 effect v (offer stamp o) =
-    result (joined (refreshed v stamp) (packetOf o (refreshed v stamp .clock .time))) Taken
+    result
+    (joined (roomMade (refreshed v stamp) (o .priority)) (packetOf o (refreshed v stamp .clock .time)))
+    Taken
 effect {h} v (poll stamp) = polled (refreshed v stamp) (h .next (refreshed v stamp .waiting))

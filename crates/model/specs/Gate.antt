@@ -2,7 +2,7 @@
 -- numbers").
 use Prim.Native.Nat.{ℕ}
 use mathlib.Core.Path.{_≡_}
-use mathlib.Core.Bool.{Bool, true, not, cond}
+use mathlib.Core.Bool.{Bool, true, not, cond, _&&_}
 use mathlib.Core.List.{List, [], _∷_, _++_}
 use lib.Dec.{ltb, leb, eqb}
 use Rattle.rules.specs.Profiles.{isProfile, lastPriority, ontimeAllowed, lifetimeAllowed, room, mostOffers}
@@ -26,10 +26,11 @@ numberChecks profile o =
     ∷ check 7 (not (lifetimeAllowed (o .lifetime)))
     ∷ []
 
--- 8 QUEUE-FULL: "5 unexpired packets wait in that queue at the new time"; "11, SPENT, checked after 8"
--- (document 02, W-201)
-abbrev pub roomChecks : (ofPriority accepted : ℕ) → List Check
-roomChecks ofPriority accepted = check 8 (leb room ofPriority) ∷ check 11 (leb mostOffers accepted) ∷ []
+-- 8 QUEUE-FULL: "5 unexpired packets wait in that queue at the new time"; "Number 8 is given only by a gate
+-- made in the old way" (document 02, W-205); "11, SPENT, checked after 8" (W-201)
+abbrev pub roomChecks : (oldway ofPriority accepted : ℕ) → List Check
+roomChecks oldway ofPriority accepted =
+    check 8 (eqb oldway 1 && leb room ofPriority) ∷ check 11 (leb mostOffers accepted) ∷ []
 
 -- "then 4, 5, 6, 7, 8 as they apply"; 4 BAD-SAMPLE
 abbrev pub ownChecks : {h : Holding} → Status h → Call → List Check
@@ -37,7 +38,7 @@ ownChecks v (words stamp ws) = check 4 (not (goodWords ws)) ∷ []
 ownChecks v (count stamp busy) = check 4 (badCount busy) ∷ []
 ownChecks {h} v (offer stamp o) =
     numberChecks (v .control .profile) o
-    ++ roomChecks (h .ofPriority (o .priority) (refreshed v stamp .waiting)) (v .counts .accepted)
+    ++ roomChecks (v .oldway) (h .ofPriority (o .priority) (refreshed v stamp .waiting)) (v .counts .accepted)
 ownChecks v (poll stamp) = []
 
 -- "Checks run 9, 2, 3, then ..": 9 NO-STATE, 2 CLOCK-BACK, 3 CLOCK-END
@@ -56,9 +57,10 @@ checks v c = clockChecks (sound v) (v .clock) (stampOf c) (ownChecks v c)
 abbrev pub unlessRefused : {h : Holding} → (number : ℕ) → Status h → Result h → Result h
 unlessRefused number given done = cond (eqb number 0) done (result given (Refused number))
 
--- 1 BAD-PROFILE: "make: profile not 1 to 3"
+-- 1 BAD-PROFILE: "make: profile not 1 to 3"; "1 asks for the old way, 0 for the new, any other number is
+-- refused with 1" (document 02, W-205)
 abbrev pub makeChecks : Making → List Check
-makeChecks m = check 1 (not (isProfile (m .profile))) ∷ []
+makeChecks m = check 1 (not (isProfile (m .profile))) ∷ check 1 (ltb 1 (m .oldway)) ∷ []
 
 -- "Make's refusal hands back the all-zero, not live state."
 unfoldable pub makeIn : (h : Holding) → Making → Result h

@@ -57,6 +57,8 @@ pub record Holding : Type 1 where
   pub ofPriority : ℕ → Held → ℕ
   -- "removes every expired packet"
   pub expire : (now : ℕ) → Held → Held
+  -- "the front one leaves" (document 02, W-205): without the front one of a priority
+  pub spill : (priority : ℕ) → Held → Held
   -- with one more, the last to come
   pub join : Packet → Held → Held
   -- "The packet is the oldest of the lowest-numbered"

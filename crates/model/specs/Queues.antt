@@ -3,7 +3,7 @@ use Prim.Native.Nat.{ℕ}
 use mathlib.Core.Bool.{Bool, _&&_}
 use mathlib.Core.List.{List, [], _∷_}
 use lib.Dec.{leb, eqb}
-use lib.ListN.{length}
+use lib.ListN.{length, drop}
 use Rattle.rules.specs.Tests.{allOf}
 use Rattle.rules.specs.Profiles.{room}
 use Rattle.model.specs.declared.Packet.{Packet}
@@ -40,7 +40,8 @@ choiceOf [] [] [] [] = nothing
 unfoldable pub choice : Four Packet → Chosen (Four Packet)
 choice q = choiceOf (q .c0) (q .c1) (q .c2) (q .c3)
 
--- "An offer then joins the back of its priority's queue"
+-- "the front one leaves and the new one joins" (document 02, W-205); "An offer then joins the back of its
+-- priority's queue"
 abbrev pub inQueues : Holding
 inQueues =
     record {
@@ -49,6 +50,7 @@ inQueues =
       total = howMany;
       ofPriority = λ (priority : ℕ) (q : Four Packet). length (column priority q);
       expire = λ (now : ℕ) (q : Four Packet). each (withoutExpired now) q;
+      spill = λ (priority : ℕ) (q : Four Packet). change priority (drop 1) q;
       join = λ (p : Packet) (q : Four Packet). change (p .priority) (atBack p) q;
       next = choice;
       fits = λ (profile now : ℕ) (q : Four Packet). allOf (queueRules profile now q);

@@ -19,6 +19,8 @@ use Rattle.model.specs.Calls.{Making}
 -- yes-or-no of it
 pub record Status (h : Holding) : Type 0 where
   pub live : ℕ
+  -- "a gate made in the old way, a yes-or-no fixed at making and held in the state" (document 02, W-205)
+  pub oldway : ℕ
   pub clock : Clock
   pub control : Control
   pub last : Last
@@ -30,45 +32,60 @@ abbrev pub View : Type 0
 View = Status inQueues
 
 -- the one builder of a state
-abbrev pub statusFrom : {h : Holding} → ℕ → Clock → Control → Last → Counts → h .Held → Status h
-statusFrom live clock control last counts waiting =
-    record { live = live; clock = clock; control = control; last = last; counts = counts; waiting = waiting }
+abbrev pub statusFrom :
+    {h : Holding} → (live oldway : ℕ) → Clock → Control → Last → Counts → h .Held → Status h
+statusFrom live oldway clock control last counts waiting =
+    record {
+      live = live;
+      oldway = oldway;
+      clock = clock;
+      control = control;
+      last = last;
+      counts = counts;
+      waiting = waiting;
+    }
 
 -- a state with one group changed
 abbrev pub withClock : {h : Holding} → Status h → Clock → Status h
-withClock v clock = statusFrom (v .live) clock (v .control) (v .last) (v .counts) (v .waiting)
+withClock v clock =
+    statusFrom (v .live) (v .oldway) clock (v .control) (v .last) (v .counts) (v .waiting)
 
 abbrev pub withControl : {h : Holding} → Status h → Control → Status h
-withControl v control = statusFrom (v .live) (v .clock) control (v .last) (v .counts) (v .waiting)
+withControl v control =
+    statusFrom (v .live) (v .oldway) (v .clock) control (v .last) (v .counts) (v .waiting)
 
 abbrev pub withLast : {h : Holding} → Status h → Last → Status h
-withLast v last = statusFrom (v .live) (v .clock) (v .control) last (v .counts) (v .waiting)
+withLast v last =
+    statusFrom (v .live) (v .oldway) (v .clock) (v .control) last (v .counts) (v .waiting)
 
 abbrev pub withCounts : {h : Holding} → Status h → Counts → Status h
-withCounts v counts = statusFrom (v .live) (v .clock) (v .control) (v .last) counts (v .waiting)
+withCounts v counts =
+    statusFrom (v .live) (v .oldway) (v .clock) (v .control) (v .last) counts (v .waiting)
 
 abbrev pub withWaiting : {h : Holding} → Status h → h .Held → Status h
-withWaiting v waiting = statusFrom (v .live) (v .clock) (v .control) (v .last) (v .counts) waiting
+withWaiting v waiting =
+    statusFrom (v .live) (v .oldway) (v .clock) (v .control) (v .last) (v .counts) waiting
 
 -- "nothing admitted"
 abbrev pub noLast : Last
 noLast = record { at = 0; ontime = 0; admitted = 0 }
 
--- "three numbers in the state: offers accepted, packets sent, packets expired" (document 02, W-201), at first
+-- "three numbers in the state: offers accepted, packets sent, packets expired" (document 02, W-201), and "a
+-- fourth count, displaced" (W-205), at first
 abbrev pub noCounts : Counts
-noCounts = record { accepted = 0; sent = 0; expired = 0 }
+noCounts = record { accepted = 0; sent = 0; expired = 0; displaced = 0 }
 
 -- nothing admitted, counted or waiting
-abbrev pub blank : {h : Holding} → ℕ → Clock → Control → Status h
-blank {h} live clock control = statusFrom live clock control noLast noCounts (h .none)
+abbrev pub blank : {h : Holding} → (live oldway : ℕ) → Clock → Control → Status h
+blank {h} live oldway clock control = statusFrom live oldway clock control noLast noCounts (h .none)
 
 -- "A fresh state: live, last stamp as given to make, running time 0, .., nothing admitted, queues empty."
 abbrev pub fresh : {h : Holding} → Making → Status h
-fresh m = blank 1 (record { time = 0; stamp = m .stamp }) (freshControl (m .profile))
+fresh m = blank 1 (m .oldway) (record { time = 0; stamp = m .stamp }) (freshControl (m .profile))
 
 -- "the all-zero, not live state"
 abbrev pub notLive : {h : Holding} → Status h
-notLive = blank 0 (record { time = 0; stamp = 0 }) noControl
+notLive = blank 0 0 (record { time = 0; stamp = 0 }) noControl
 
 -- "the admission not after it and its on-time allowed"; "admission fields before the first" are zero
 abbrev pub lastRules : (profile now : ℕ) → Last → List Bool
@@ -78,14 +95,17 @@ lastRules profile now l =
     ∷ cond (eqb (l .admitted) 1) (ontimeAllowed profile (l .ontime)) (eqb (l .at) 0 && eqb (l .ontime) 0)
     ∷ []
 
--- "A state whose counts don't add up, or with accepted above 10^15, isn't sound." (document 02, W-201)
+-- "A state whose counts don't add up, or with accepted above 10^15, isn't sound." (document 02, W-201);
+-- "W-201's sum gains a fourth count, displaced" (W-205)
 abbrev pub countRules : (waiting : ℕ) → Counts → List Bool
-countRules waiting c = eqb (c .accepted) (c .sent + c .expired + waiting) ∷ leb (c .accepted) mostOffers ∷ []
+countRules waiting c =
+    eqb (c .accepted) (c .sent + c .expired + c .displaced + waiting) ∷ leb (c .accepted) mostOffers ∷ []
 
 -- "A state is sound if: live; ..; running time at most 10^15; .."
 abbrev pub statusRules : {h : Holding} → Status h → List Bool
 statusRules {h} v =
     eqb (v .live) 1
+    ∷ leb (v .oldway) 1
     ∷ soundControl (v .control)
     ∷ leb (v .clock .time) endOfTime
     ∷ allOf (lastRules (v .control .profile) (v .clock .time) (v .last))
