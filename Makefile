@@ -27,10 +27,11 @@ demo: demo-build
 	@echo 'Below, each call that the trailer made and the answer of $(REPLAY).'
 	@echo 'Warnings have priority 0. Left out: samples, and polls that found the gate closed.'
 	@echo
-	@$(CURLEW) show --brief --first 24 $(JAM).log target/demo/jam.out
+	@$(CURLEW) show --brief --first 30 $(JAM).log target/demo/jam.out
 	@echo
 	@echo 'Warning 101 came at 2.001 s and went at 2.050 s: 1.02 s after the packet before it. From there on a warning'
-	@echo 'goes each second, as one comes each second. What is less urgent has to wait, or expires.'
+	@echo 'goes each second, as one comes each second. What is less urgent has to wait, or expires. The last line shows a'
+	@echo 'full queue: five entries of the diary (priority 3) wait, and the new one displaces the oldest, 501.'
 	@echo
 	@echo 'Was all of it right? A book of the run, kept from calls and answers alone, and a second program say:'
 	@echo

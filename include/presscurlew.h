@@ -44,14 +44,14 @@ extern "C" {
  * clock and counts included. A burst tests 13, then 12, and then goes record by record.
  */
 enum presscurlew_refusal {
-    PRESSCURLEW_BAD_PROFILE = 1,  /* make: the profile is not 1 to 3 */
+    PRESSCURLEW_BAD_PROFILE = 1,  /* make: the profile is not 1 to 3, or when_full is above 1 */
     PRESSCURLEW_CLOCK_BACK = 2,   /* from the last stamp to this one, modulo 2^32, are 2,147,483,648 us or more */
     PRESSCURLEW_CLOCK_END = 3,    /* the running time would pass 10^15 us, some 31 years */
     PRESSCURLEW_BAD_SAMPLE = 4,   /* not 16 words, or a bit above bit 39 set in the last, or a busy count above 1,000 */
     PRESSCURLEW_BAD_PRIORITY = 5, /* the priority is above 3 */
     PRESSCURLEW_BAD_ON_TIME = 6,  /* the profile does not allow this on-time */
     PRESSCURLEW_BAD_LIFETIME = 7, /* the lifetime is 0 or above 60,000,000 */
-    PRESSCURLEW_QUEUE_FULL = 8,   /* 5 unexpired packets of this priority wait */
+    PRESSCURLEW_QUEUE_FULL = 8,   /* 5 unexpired packets of this priority wait, in a gate of REFUSE_NEW */
     PRESSCURLEW_NO_STATE = 9,     /* the state is not sound: make refused it, or it was changed */
     PRESSCURLEW_BAD_KIND = 10,    /* burst, as the answer to one record: its kind is not 2 */
     PRESSCURLEW_SPENT = 11,       /* the gate has accepted 10^15 offers */
@@ -66,7 +66,7 @@ enum presscurlew_refusal {
  * The host keeps a presscurlew_state for each channel. Each call takes the state by value and hands back
  * the next one, with an answer:
  *
- *   presscurlew_turn turn = presscurlew_make(1, radio_clock());
+ *   presscurlew_turn turn = presscurlew_make(1, PRESSCURLEW_DROP_OLDEST, radio_clock());
  *   presscurlew_state state = turn.state;
  *   ...
  *   turn = presscurlew_offer(state, id, priority, ontime, lifetime, radio_clock());
@@ -127,14 +127,16 @@ typedef struct presscurlew_last {
 /*
  * What the gate has counted since make, to read at any time:
  *
- *   accepted = sent + expired + the packets that wait
+ *   accepted = sent + expired + displaced + the packets that wait
  *
- * The sum is that of whole numbers: counts that add up only modulo 2^64 are not sound.
+ * The sum is that of whole numbers: counts that add up only modulo 2^64 are not sound. Which of them are 0 is not
+ * judged: a state of REFUSE_NEW with packets displaced is sound, though no call leads to one.
  */
 typedef struct presscurlew_counts {
-    uint64_t accepted; /* offers that were TAKEN; at most 10^15 */
-    uint64_t sent;     /* packets that were SENT */
-    uint64_t expired;  /* packets that were removed as expired, at an offer or a poll; a sample removes none */
+    uint64_t accepted;  /* offers that were TAKEN; at most 10^15 */
+    uint64_t sent;      /* packets that were SENT */
+    uint64_t expired;   /* packets that were removed as expired, at an offer or a poll; a sample removes none */
+    uint64_t displaced; /* packets that were dropped for a newer one; a gate of REFUSE_NEW drops none */
 } presscurlew_counts;
 
 /* What samples steer. The profile, which says how, stands beside it in the state. */
@@ -146,7 +148,13 @@ typedef struct presscurlew_tuning {
     uint32_t pairing;  /* 1 while a sample is kept, else 0 */
 } presscurlew_tuning;
 
-/* The state of one gate: 600 bytes. */
+/* What a gate does with an offer that finds 5 unexpired packets of its priority; it is said when the gate is made. */
+enum presscurlew_when_full {
+    PRESSCURLEW_DROP_OLDEST = 0, /* the front one leaves, is counted as displaced, and the new one joins: TAKEN */
+    PRESSCURLEW_REFUSE_NEW = 1   /* QUEUE_FULL: what was taken once is sent or expires, and is never displaced */
+};
+
+/* The state of one gate: 608 bytes. */
 typedef struct presscurlew_state {
     presscurlew_queue queues[4]; /* by priority */
     presscurlew_clock clock;
@@ -154,6 +162,7 @@ typedef struct presscurlew_state {
     presscurlew_counts counts;
     presscurlew_tuning tuning;
     uint32_t profile; /* 1 to 3, as it was made; no call changes it */
+    uint32_t oldway;  /* 0 or 1, an enum presscurlew_when_full, as it was made; no call changes it */
     uint32_t live;    /* 1; 0 in the all-zero state that a refused make hands back */
 } presscurlew_state;
 
@@ -182,11 +191,12 @@ typedef struct presscurlew_turn {
 
 /*
  * A fresh state: running time 0, level 0, duty 600,000, smoothed load 0, nothing kept, nothing admitted,
- * nothing waiting, nothing counted. `stamp` is the radio's clock now. READY.
+ * nothing waiting, nothing counted. `when_full` is an enum presscurlew_when_full, which the state keeps, and
+ * `stamp` is the radio's clock now. READY.
  *
  * Refusals: BAD_PROFILE, with the all-zero state, which every other call refuses with NO_STATE.
  */
-presscurlew_turn presscurlew_make(uint32_t profile, uint32_t stamp);
+presscurlew_turn presscurlew_make(uint32_t profile, uint32_t when_full, uint32_t stamp);
 
 /*
  * A sample of the channel: 1,000 probes in 16 words. Probe k is bit k mod 64 of word k / 64, and is 1 where
@@ -212,11 +222,15 @@ presscurlew_turn presscurlew_sample_count(presscurlew_state state, uint32_t busy
 
 /*
  * A packet to send. The clock moves, every expired packet of all queues is removed and counted, and the packet
- * joins the back of its priority's queue and is counted as accepted. TAKEN.
+ * joins the back of its priority's queue and is counted as accepted. If 5 wait there still, a gate of DROP_OLDEST
+ * drops the front one first, and counts it as displaced; so a packet is displaced by the fifth packet of its own
+ * priority that is taken after it, or by a later one, and by nothing else. Which one it was is not answered; that
+ * there was one shows in the counts. TAKEN.
  *
  *   turn = presscurlew_offer(state, 7, 1, 400, 100000, radio_clock());   a packet of 400 us, good for 100 ms
  *
- * Refusals: NO_STATE, CLOCK_BACK, CLOCK_END, BAD_PRIORITY, BAD_ON_TIME, BAD_LIFETIME, QUEUE_FULL, SPENT.
+ * Refusals: NO_STATE, CLOCK_BACK, CLOCK_END, BAD_PRIORITY, BAD_ON_TIME, BAD_LIFETIME, QUEUE_FULL (REFUSE_NEW
+ * alone), SPENT. A refused offer drops nothing.
  */
 presscurlew_turn presscurlew_offer(presscurlew_state state, uint32_t id, uint32_t priority, uint32_t ontime,
                                    uint32_t lifetime, uint32_t stamp);

@@ -1,6 +1,6 @@
 /*
  * A burst beside the single calls: the same answers and the same state, in one call. Then what a burst as a whole can
- * be refused for, and what a state that is not sound does to it.
+ * be refused for, what a state that is not sound does to it, and a queue that gets full.
  */
 #include <inttypes.h>
 #include <stdio.h>
@@ -78,8 +78,22 @@ static void show(const char *what, presscurlew_state state, size_t bytes, size_t
     printf(", time %" PRIu64 "\n", turn.state.clock.time);
 }
 
+/* Six of one priority: the last finds five waiting, and the gate does as it was made. */
+static void six(const char *what, uint32_t when_full) {
+    uint8_t warnings[6][PRESSCURLEW_RECORD_BYTES], answers[6];
+
+    for (uint32_t i = 0; i < 6; i++)
+        presscurlew_put_offer(warnings[i], i + 1, 0, 600, 1000000, 0);
+    presscurlew_state state = presscurlew_make(1, when_full, 0).state;
+    state = presscurlew_burst(state, warnings[0], sizeof warnings, answers, sizeof answers).state;
+    printf("%s: the sixth gets %u, there wait", what, answers[5]);
+    for (unsigned i = 0; i < 5; i++)
+        printf(" %" PRIu32, state.queues[0].slots[i].id);
+    printf("; %" PRIu64 " displaced\n", state.counts.displaced);
+}
+
 int main(void) {
-    presscurlew_state fresh = presscurlew_make(1, 0).state, bent = fresh;
+    presscurlew_state fresh = presscurlew_make(1, PRESSCURLEW_DROP_OLDEST, 0).state, bent = fresh;
 
     put_records();
     beside_single_calls(fresh);
@@ -94,5 +108,7 @@ int main(void) {
     records[1][0] = 3;
     show("the second a poll", fresh, 48, 3);
     show("the same, not sound", bent, 48, 3);
+    six("drop the oldest", PRESSCURLEW_DROP_OLDEST);
+    six("refuse the new", PRESSCURLEW_REFUSE_NEW);
     return 0;
 }

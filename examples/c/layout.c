@@ -7,7 +7,7 @@
 #include "presscurlew.h"
 
 #define SIZE(name) printf(#name " %zu bytes\n", sizeof(presscurlew_##name))
-#define FIELD(name, field) printf("  %-8s at %3zu\n", #field, offsetof(presscurlew_##name, field))
+#define FIELD(name, field) printf("  %-9s at %3zu\n", #field, offsetof(presscurlew_##name, field))
 
 static void parts(void) {
     SIZE(packet);
@@ -30,6 +30,7 @@ static void parts(void) {
     FIELD(counts, accepted);
     FIELD(counts, sent);
     FIELD(counts, expired);
+    FIELD(counts, displaced);
     SIZE(tuning);
     FIELD(tuning, level);
     FIELD(tuning, duty);
@@ -46,6 +47,7 @@ static void wholes(void) {
     FIELD(state, counts);
     FIELD(state, tuning);
     FIELD(state, profile);
+    FIELD(state, oldway);
     FIELD(state, live);
     SIZE(reply);
     FIELD(reply, packet);

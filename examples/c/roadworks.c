@@ -156,17 +156,19 @@ static uint64_t waiting(const presscurlew_state *state) {
     return sum;
 }
 
-/* What the host has counted, and what the gate has: accepted is sent, expired and waiting together. */
+/* What the host has counted, and what the gate has: accepted is sent, expired, displaced and waiting together. */
 static void sum_up(const host *h) {
     const presscurlew_counts *counts = &h->state.counts;
 
     printf("%" PRIu32 " offered, %" PRIu32 " refused; %" PRIu32 " us on air\n", h->offered, h->refused, h->air_time);
-    printf("%" PRIu64 " accepted: %" PRIu64 " sent, %" PRIu64 " expired, %" PRIu64 " waiting\n", counts->accepted,
-           counts->sent, counts->expired, waiting(&h->state));
+    printf("%" PRIu64 " accepted: %" PRIu64 " sent, %" PRIu64 " expired, ", counts->accepted, counts->sent,
+           counts->expired);
+    printf("%" PRIu64 " displaced, %" PRIu64 " waiting\n", counts->displaced, waiting(&h->state));
 }
 
 int main(void) {
-    presscurlew_turn made = presscurlew_make(1, START);
+    /* What the gate has taken it never drops, and the host hears at once of a message that finds no room. */
+    presscurlew_turn made = presscurlew_make(1, PRESSCURLEW_REFUSE_NEW, START);
     host h = {.state = made.state, .now = START, .quiet_until = START};
 
     if (made.reply.kind != PRESSCURLEW_READY)

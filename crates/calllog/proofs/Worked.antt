@@ -31,13 +31,13 @@ fields = (refl, refl)
 
 -- each kind; the busy count is the whole identifier field, over 16 bits too
 ofKind : ℕ → Record
-ofKind kind = record { kind = kind; priority = 2; ontime = 400; lifetime = 1000; id = 65541; stamp = 9 }
+ofKind kind = record { kind = kind; priority = 2; ontime = 400; lifetime = 1; id = 65541; stamp = 9 }
 
 kinds :
     map (λ (kind : ℕ). askedBy (ofKind kind)) (0 ∷ 1 ∷ 2 ∷ 3 ∷ 4 ∷ 255 ∷ [])
-    ≡ makes (record { profile = 2; stamp = 9 })
+    ≡ makes (record { profile = 2; oldway = 1; stamp = 9 })
     ∷ calls (count 9 65541)
-    ∷ calls (offer 9 (record { id = 65541; priority = 2; ontime = 400; lifetime = 1000 }))
+    ∷ calls (offer 9 (record { id = 65541; priority = 2; ontime = 400; lifetime = 1 }))
     ∷ calls (poll 9)
     ∷ unknown
     ∷ unknown
@@ -51,7 +51,7 @@ unfolding stepOn askedBy ofKind
 unknown-kind s = refl
 
 -- a make takes the place of whatever state there was, and a refused one leaves the not live state
-made-anew : (s : State) → stepOn s (ofKind 0) ≡ makeState (record { profile = 2; stamp = 9 })
+made-anew : (s : State) → stepOn s (ofKind 0) ≡ makeState (record { profile = 2; oldway = 1; stamp = 9 })
 unfolding stepOn askedBy ofKind
 made-anew s = refl
 
@@ -59,6 +59,13 @@ refused-make : (s : State)
     → stepOn s (record { kind = 0; priority = 4; ontime = 0; lifetime = 0; id = 0; stamp = 9 }) ≡ outcome atStart (Refused 1)
 unfolding of-states of-logs
 refused-make s = refl
+
+-- "any other number is refused with 1" (document 02, W-205): a lifetime field of 2, and one that is 0 or 1 in its low byte
+refused-way : (s : State)
+    → (stepOn s (record { kind = 0; priority = 1; ontime = 0; lifetime = 2; id = 0; stamp = 9 }) ≡ outcome atStart (Refused 1))
+    × (stepOn s (record { kind = 0; priority = 1; ontime = 0; lifetime = 256; id = 0; stamp = 9 }) ≡ outcome atStart (Refused 1))
+unfolding of-states of-logs
+refused-way s = (refl, refl)
 
 -- "Before a successful kind 0, kinds 1 to 3 meet NO-STATE"
 nine : Outcome
@@ -128,7 +135,7 @@ burst-numbers = refl
 -- a fresh gate of profile 2 at stamp 5; an offer at 9, a poll's record, whose stamp 255 is not looked at, an offer at 8 and one of
 -- priority 4 at 10
 fresh2 : State
-fresh2 = makeState (record { profile = 2; stamp = 5 }) .state
+fresh2 = makeState (record { profile = 2; oldway = 0; stamp = 5 }) .state
 
 four-records : List ℕ
 four-records =

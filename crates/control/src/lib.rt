@@ -44,16 +44,6 @@ pub fn none() -> Tuning
     }
 }
 
-// Whether a sample is kept only in profile 3, and zero when none is kept.
-fn is_pairing_sound(profile: u32, t: Tuning) -> bool
-    ensures { λ r. ⌜ r ≡ pairingSound profile t ⌝ }
-{
-    if t.pairing == 1 {
-        return profile == rules::ADAPTIVE;
-    }
-    t.kept == 0
-}
-
 // Whether what samples steer is within its limits.
 pub fn is_sound(profile: u32, t: Tuning) -> bool
     ensures { λ r. ⌜ r ≡ soundControl (controlOf profile t) ⌝ }
@@ -77,10 +67,12 @@ pub fn is_sound(profile: u32, t: Tuning) -> bool
     if rules::FULL_LOAD < t.kept {
         return false;
     }
-    if 1 < t.pairing {
-        return false;
+    let pairing = t.pairing;
+    match pairing {
+        0 => t.kept == 0,
+        1 => profile == rules::ADAPTIVE,
+        _ => false,
     }
-    is_pairing_sound(profile, t)
 }
 
 // What is steered after a sample.

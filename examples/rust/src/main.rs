@@ -9,7 +9,7 @@
 
 use std::mem;
 
-use presscurlew::{Answer, Counts, Gate, Offer, Packet, Refusal};
+use presscurlew::{Answer, Counts, Gate, Offer, Packet, Refusal, WhenFull};
 
 const START: u32 = 4_294_000_000;
 const TICK_US: u32 = 10_000;
@@ -81,7 +81,8 @@ fn hear_channel(busy: usize) -> [u64; 16] {
 impl Host {
     fn new() -> Result<Host, Refusal> {
         Ok(Host {
-            gate: Gate::new(1, START)?,
+            // What the gate has taken it never drops, and the host hears at once of a message that finds no room.
+            gate: Gate::new(1, WhenFull::RefuseNew, START)?,
             now: START,
             quiet_until: START,
             ready: Vec::new(),
@@ -193,7 +194,7 @@ impl Host {
         Ok(())
     }
 
-    /// What the host has counted, and what the gate has: accepted is sent, expired and waiting together.
+    /// What the host has counted, and what the gate has: accepted is sent, expired, displaced and waiting together.
     fn sum_up(&self) {
         let Host {
             offered,
@@ -206,10 +207,11 @@ impl Host {
             accepted,
             sent,
             expired,
+            displaced,
         } = self.gate.counts();
         let queues = self.gate.state().queues.iter();
         let waiting: u64 = queues.map(|queue| queue.len).sum();
-        println!("{accepted} accepted: {sent} sent, {expired} expired, {waiting} waiting");
+        println!("{accepted} accepted: {sent} sent, {expired} expired, {displaced} displaced, {waiting} waiting");
     }
 }
 

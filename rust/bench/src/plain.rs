@@ -33,12 +33,15 @@ pub struct State {
     pub accepted: u64,
     pub sent: u64,
     pub expired: u64,
+    pub displaced: u64,
     pub level: u32,
     pub duty: u32,
     pub smoothed: u32,
     pub kept: u32,
     pub pairing: u32,
     pub profile: u32,
+    /// 1 if a full queue refuses, 0 if it drops its oldest.
+    pub oldway: u32,
     pub live: u32,
 }
 
@@ -128,9 +131,10 @@ impl Queue {
 }
 
 impl State {
-    pub fn new(profile: u32, stamp: u32) -> State {
+    pub fn new(profile: u32, oldway: u32, stamp: u32) -> State {
         State {
             profile,
+            oldway,
             stamp,
             duty: 600_000,
             live: 1,
@@ -142,6 +146,7 @@ impl State {
     pub fn is_sound(&self) -> bool {
         let tuning = self.live == 1
             && (1..=3).contains(&self.profile)
+            && self.oldway <= 1
             && self.level <= 4
             && (600_000..=30_000_000).contains(&self.duty)
             && self.smoothed <= 1_000_000
@@ -165,12 +170,14 @@ impl State {
             && self.adds_up()
     }
 
-    /// Whether accepted is sent, expired and waiting together, the queues being sound.
+    /// Whether accepted is sent, expired, displaced and waiting together, the queues being sound.
     fn adds_up(&self) -> bool {
+        // Each is at most what was accepted, so that the sum does not wrap.
+        let gone = [self.sent, self.expired, self.displaced];
         let waiting: usize = self.queues.iter().map(|q| q.len).sum();
-        let sum = self.sent.checked_add(self.expired);
         self.accepted <= MOST_OFFERS
-            && sum.and_then(|n| n.checked_add(waiting as u64)) == Some(self.accepted)
+            && gone.iter().all(|&n| n <= self.accepted)
+            && gone.iter().sum::<u64>() + waiting as u64 == self.accepted
     }
 
     /// The running time at a stamp, or the refusal.
@@ -269,7 +276,8 @@ impl State {
             return Answer::Refused(7);
         }
         let q = &self.queues[priority as usize];
-        if q.len == 5 && q.waiting().iter().all(|p| p.is_live(now)) {
+        let full = q.len == 5 && q.waiting().iter().all(|p| p.is_live(now));
+        if full && self.oldway == 1 {
             return Answer::Refused(8);
         }
         if self.accepted >= MOST_OFFERS {
@@ -277,7 +285,12 @@ impl State {
         }
         self.clear(now, stamp);
         self.accepted += 1;
-        self.queues[priority as usize].push(Packet {
+        let q = &mut self.queues[priority as usize];
+        if full {
+            q.pop();
+            self.displaced += 1;
+        }
+        q.push(Packet {
             id,
             priority,
             ontime,

@@ -32,7 +32,8 @@ curlew write [IN.txt] [-o OUT.log]: plain text to a log
 Reads standard input without IN.txt, writes to standard output without -o. One call a line;
 # starts a comment; blank lines are nothing.
 
-  make PROFILE at STAMP
+  make PROFILE at STAMP                      a full queue drops its oldest for the new one
+  make PROFILE keep-oldest at STAMP          a full queue keeps them, and refuses the new one with 8
   sample BUSY at STAMP                       BUSY of 1,000 probes were busy
   offer ID priority P ontime T lifetime T at STAMP
   poll at STAMP
@@ -41,7 +42,8 @@ Reads standard input without IN.txt, writes to standard output without -o. One c
 
 STAMP is the radio's count, 0 to 4294967295, or +T or -T from the stamp before; it wraps.
 T is a time in µs, or with a unit: 400, 400us, 50ms, 1s. _ may stand between digits.
-Numbers that the gate refuses may be written, as long as the record has room for them.
+Numbers that the gate refuses may be written, as long as the record has room for them. The way
+of a make is drop-oldest, the default, or keep-oldest, or any number after the word way.
 
   make 2 at 4294967000
   offer 7 priority 2 ontime 400 lifetime 1s at +100      # 7 waits up to a second
@@ -53,12 +55,13 @@ curlew show [--from N] [--first N] [--brief] LOG [ANSWERS]: a log as a table
 curlew show [--from N] [--first N] --plain LOG: a log in the plain form
 
 A line a record: its number, the run's time in seconds, the call, the answer, how many packets
-were accepted, sent and expired so far, how many wait in the queue of each priority, and the
-level (profiles 1 and 2) or the duty (profile 3) with the wait that it asks for: after the end
-of a packet (profiles 1 and 2) or from its start on (profile 3). Packets are counted from calls
-and answers alone, an expired one when it is removed: at the first offer or poll that finds it
-expired. Without ANSWERS, the answers are those of the second program. A line starts with !
-where an answer is wrong, and the reason stands below it.
+were accepted, sent, expired and displaced so far, how many wait in the queue of each priority,
+and the level (profiles 1 and 2) or the duty (profile 3) with the wait that it asks for: after
+the end of a packet (profiles 1 and 2) or from its start on (profile 3). Packets are counted
+from calls and answers alone, an expired one when it is removed: at the first offer or poll that
+finds it expired. An offer that found its queue full says which packet it displaced, behind its
+answer. Without ANSWERS, the answers are those of the second program. A line starts with ! where
+an answer is wrong, and the reason stands below it.
 
   --from N     start at record N
   --first N    show N lines
@@ -72,14 +75,16 @@ curlew check LOG ANSWERS: were ceiling and floor kept, and do the counts add up
 Keeps a book of each run (a make that was ready, and the calls up to the next make) from the
 calls and the answers alone, and says of each run:
 
-  Counts     accepted = sent + expired + waiting at every record, and each of the three is
-             what the second program's state has counted
+  Counts     accepted = sent + expired + displaced + waiting at every record, and each of the
+             first four is what the second program's state has counted
   Ceiling    in any window of W µs, 100 x air time is at most 3 W + 400,000
   Floor      a poll that finds a packet 1.001 s (profile 1), 1.0005 s (profile 2) or 1 s
              (profile 3) or more after the last admission sends
-  Turn       of each priority in order; one of priority 0 sees no more go than came before it
+  Turn       of each priority in order; one of priority 0 sees no more go than came before it;
+             a packet is displaced only by the fifth or a later offer of its priority after it
   Delivery   one of priority 0 with k before it and polls at most p apart goes in time:
              no later than (k + 1) x (floor + p) after it came, if it lives longer than that
+             and is not displaced
   Answers    each is what the second program answers
 
 with the nearest that the run came to its limit. ANSWERS must fit the log: a line a record,
@@ -90,8 +95,9 @@ const PLOT_HELP: &str = "\
 curlew plot [--run N] [--from T] [--to T] LOG [ANSWERS] -o OUT.svg: a picture of a run
 
 Over the run's time: the channel load, the level or duty, what waits in each queue, what was
-sent and what expired, the time since the last admission beside the floor, and the air time in
-a sliding second beside the ceiling. LOG and ANSWERS are read twice, so they can't be -.
+sent, what expired and what was displaced, the time since the last admission beside the floor,
+and the air time in a sliding second beside the ceiling. LOG and ANSWERS are read twice, so they
+can't be -.
 
   --run N      the Nth run of the log (the first)
   --from T     a part of the run: from this time on, in µs or with a unit, as 500ms or 12s

@@ -121,10 +121,12 @@ fn calls(run: &Run) -> String {
 fn counts(run: &Run) -> String {
     let counts = run.book.counts();
     format!(
-        "KEPT. {} accepted = {} sent + {} expired + {} waiting at the end. They add up at every record.",
+        "KEPT. {} accepted = {} sent + {} expired + {} displaced + {} waiting at the end. \
+         They add up at every record.",
         grouped(counts.accepted),
         grouped(counts.sent),
         grouped(counts.expired),
+        grouped(counts.displaced),
         grouped(run.book.waiting())
     )
 }
@@ -197,18 +199,39 @@ fn turn(run: &Run, lines: &mut Vec<(&'static str, String)>) {
         ),
     };
     lines.push(("Turn", format!("KEPT. Each in its turn; {seen}.")));
-    let delivery = match watch.zero_sent + watch.zero_expired {
+    if let Some(fewest) = run.book.closest().fewest_offers {
+        lines.push(("", displaced(run, fewest)));
+    }
+    let delivery = match watch.zero_sent + watch.zero_expired + watch.zero_displaced {
         0 => "KEPT. No packet of priority 0 left.".to_string(),
         _ => format!(
-            "KEPT. Of priority 0, {} went and {} expired.",
+            "KEPT. Of priority 0, {} went, {} expired and {} displaced.",
             grouped(watch.zero_sent),
-            grouped(watch.zero_expired)
+            grouped(watch.zero_expired),
+            was_or_were(watch.zero_displaced)
         ),
     };
     lines.push(("Delivery", delivery));
     if let Some(wait) = watch.nearest_wait {
         lines.push(("", nearest(&wait)));
     }
+}
+
+/// What a full queue has dropped, and after how many offers at the least.
+fn displaced(run: &Run, fewest: u64) -> String {
+    let many = run.book.counts().displaced;
+    let packets = if many == 1 { "packet" } else { "packets" };
+    format!(
+        "{} {packets} displaced, none before {} more of its own priority were taken.",
+        grouped(many),
+        grouped(fewest)
+    )
+}
+
+/// So many were.
+fn was_or_were(number: u64) -> String {
+    let word = if number == 1 { "was" } else { "were" };
+    format!("{} {word}", grouped(number))
 }
 
 /// The wait that came nearest to its bound.

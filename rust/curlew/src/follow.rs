@@ -10,6 +10,7 @@ use reference::log::{step, Record};
 use reference::state::{Packet, State};
 
 use crate::fault::Fault;
+use crate::plain::way;
 use crate::progress::Progress;
 use crate::stream::{whole, Answers, Next, Records, Said};
 use crate::text::{count, grouped, seconds, span};
@@ -21,6 +22,8 @@ pub struct Run {
     pub number: u64,
     /// The profile.
     pub profile: u32,
+    /// 1 if the gate was made in the old way, where a full queue refuses; else 0.
+    pub oldway: u32,
     /// The number of its make's record.
     pub first: u64,
     /// The number of the last record seen.
@@ -49,6 +52,8 @@ pub struct Row<'a> {
     pub state: &'a State,
     /// The packet that the poll sent.
     pub sent: Option<Packet>,
+    /// The packet that the offer displaced.
+    pub displaced: Option<Packet>,
 }
 
 /// What a log is read with.
@@ -174,6 +179,9 @@ impl Follower {
                 }
             }
         }
+        // Only of a call that was taken has the book just heard.
+        let taken = self.run.as_ref().filter(|_| said == Said::Taken);
+        let displaced = taken.and_then(|run| run.book.displaced());
         hearer.row(&Row {
             number,
             record: *record,
@@ -182,6 +190,7 @@ impl Follower {
             run: self.run.as_ref(),
             state: &self.state,
             sent,
+            displaced: displaced.map(|entry| entry.packet),
         })
     }
 }
@@ -191,6 +200,7 @@ impl Run {
         Run {
             number,
             profile: u32::from(make.priority),
+            oldway: make.lifetime,
             first,
             last: first,
             book: Book::new(u32::from(make.priority), make.stamp),
@@ -281,8 +291,9 @@ impl Run {
     /// What the run was: its records, profile and length.
     pub fn title(&self) -> String {
         format!(
-            "profile {}, {} s, records {} to {}",
+            "profile {}{}, {} s, records {} to {}",
             self.profile,
+            way(self.oldway),
             seconds(self.book.time()),
             grouped(self.first),
             grouped(self.last)
@@ -449,25 +460,28 @@ mod tests {
     /// reaches this fault; it is tried with a state that has counted otherwise.
     #[test]
     fn counts_that_are_not_the_books_are_wrong() {
-        let record = |kind: u8, priority: u8| Record {
+        let record = |kind: u8, priority: u8, lifetime: u32| Record {
             kind,
             priority,
             ontime: 1,
-            lifetime: 9,
+            lifetime,
             ..Record::default()
         };
-        let (make, offer, poll) = (record(0, 1), record(2, 0), record(3, 0));
-        for (sent, expired, words) in [
-            (0, 0, None),
-            (1, 0, Some("has 2 accepted, the book 1")),
-            (0, 1, Some("has 2 accepted, the book 1")),
+        let (make, offer, poll) = (record(0, 1, 0), record(2, 0, 9), record(3, 0, 0));
+        let two = Some("has 2 accepted, the book 1");
+        for (counted, words) in [
+            ([0, 0, 0], None),
+            ([1, 0, 0], two),
+            ([0, 1, 0], two),
+            ([0, 0, 1], two),
         ] {
+            let [sent, expired, displaced] = counted;
             let (mut ear, mut follower) = (Ear::default(), Follower::new());
             for (number, record) in [(1, make), (2, offer), (3, poll)] {
                 let fed = follower.feed(number, &record, None, &mut ear);
                 assert!(fed.is_ok());
                 if number == 1 {
-                    follower.state = follower.state.counted(sent, expired);
+                    follower.state = follower.state.counted(sent, expired, displaced);
                 }
             }
             match words {
@@ -496,7 +510,11 @@ mod tests {
                 kind: if made { 0 } else { rng.pick(&[1, 2, 2, 3, 3]) },
                 priority: if made { profile } else { rng.below(4) as u8 },
                 ontime: 1 + rng.below(500) as u16,
-                lifetime: 1 + rng.below(2_000_000) as u32,
+                lifetime: if made {
+                    rng.below(2) as u32
+                } else {
+                    1 + rng.below(2_000_000) as u32
+                },
                 id: rng.below(300) as u32,
                 stamp,
             };

@@ -5,6 +5,7 @@ use std::fs::File;
 use std::io::{self, BufRead, BufWriter, Write};
 
 use reference::log::{Record, RECORD_BYTES};
+use reference::rules::{NEW_WAY, OLD_WAY};
 
 use crate::fault::Fault;
 use crate::progress::Progress;
@@ -18,6 +19,13 @@ pub struct WriteWish {
     /// Where the records go; "-" is standard output.
     pub output: String,
 }
+
+/// The word for a make in the new way: a full queue drops its oldest.
+const DROPS: &str = "drop-oldest";
+/// The word for a make in the old way: a full queue refuses the new one.
+const KEEPS: &str = "keep-oldest";
+/// The word before the number of any other way, which the gate refuses.
+const WAY: &str = "way";
 
 /// The longest line that is read.
 const LONGEST_LINE: u64 = 4_096;
@@ -145,12 +153,15 @@ impl Reader {
         Ok(Some(record.to_bytes().to_vec()))
     }
 
+    /// A make: its profile, the way if it is told, and its stamp.
     fn make(&self, words: &mut Words) -> Result<Record, String> {
         let priority = words.small("the profile")?;
+        let lifetime = words.way()?;
         let stamp = self.at(words)?;
         Ok(Record {
             kind: 0,
             priority,
+            lifetime,
             stamp,
             ..Record::default()
         })
@@ -264,6 +275,22 @@ impl<'a> Words<'a> {
         Ok(fit(number, u64::from(u8::MAX), what)? as u8)
     }
 
+    /// The way of a make, if it is told; a full queue drops its oldest else.
+    fn way(&mut self) -> Result<u32, String> {
+        let mut ahead = self.words.clone();
+        let way = match ahead.next() {
+            Some(DROPS) => NEW_WAY,
+            Some(KEEPS) => OLD_WAY,
+            Some(WAY) => {
+                self.words = ahead;
+                return self.number("the way");
+            }
+            _ => return Ok(NEW_WAY),
+        };
+        self.words = ahead;
+        Ok(way)
+    }
+
     /// A time, with or without a unit.
     fn time(&mut self, what: &str) -> Result<u64, String> {
         let word = self.word(what)?;
@@ -369,13 +396,22 @@ pub fn call(record: &Record) -> String {
         stamp,
     } = record;
     match kind {
-        0 => format!("make {priority} at {stamp}"),
+        0 => format!("make {priority}{} at {stamp}", way(*lifetime)),
         1 => format!("sample {id} at {stamp}"),
         2 => {
             format!("offer {id} priority {priority} ontime {ontime} lifetime {lifetime} at {stamp}")
         }
         3 => format!("poll at {stamp}"),
         _ => format!("raw {}", hex(&record.to_bytes())),
+    }
+}
+
+/// The words for the way of a make; there are none for the default.
+pub fn way(number: u32) -> String {
+    match number {
+        NEW_WAY => String::new(),
+        OLD_WAY => format!(" {KEEPS}"),
+        other => format!(" {WAY} {other}"),
     }
 }
 
@@ -413,6 +449,28 @@ mod tests {
         assert_eq!(line(&record_of("make 2 at 5ms")), "make 2 at 5000");
         assert_eq!(line(&record_of("  poll   at 7")), "poll at 7");
         assert_eq!(line(&record_of("sample 600 at 0")), "sample 600 at 0");
+    }
+
+    #[test]
+    fn a_make_tells_its_way() {
+        for (text, lifetime, plain) in [
+            ("make 2 at 5", 0, "make 2 at 5"),
+            ("make 2 drop-oldest at 5", 0, "make 2 at 5"),
+            ("make 2 way 0 at 5", 0, "make 2 at 5"),
+            ("make 2 keep-oldest at 5", 1, "make 2 keep-oldest at 5"),
+            ("make 2 way 1 at 5", 1, "make 2 keep-oldest at 5"),
+            ("make 2 way 7 at 5", 7, "make 2 way 7 at 5"),
+        ] {
+            let read = record_of(text);
+            let make = Record {
+                priority: 2,
+                lifetime,
+                stamp: 5,
+                ..Record::default()
+            };
+            assert_eq!(read, make, "{text}");
+            assert_eq!(line(&read), plain);
+        }
     }
 
     #[test]
@@ -456,6 +514,15 @@ mod tests {
             ("make 1 at 0 0", "'0' is one word too many"),
             ("make 1 at +5", "'+5' needs a stamp before it"),
             ("make 1 at 5h", "'5h' is no number for the stamp"),
+            ("make 1 drop-oldest", "'at' and its stamp are missing"),
+            ("make 1 oldest at 0", "'oldest' where 'at' is due"),
+            (
+                "make 1 keep-oldest keep-oldest at 0",
+                "'keep-oldest' where 'at' is due",
+            ),
+            ("make keep-oldest at 0", "'keep-oldest' is no number"),
+            ("make 1 way at 0", "'at' is no number for the way"),
+            ("make 1 way 4294967296 at 0", "the way is too large"),
             ("poll 5", "'5' where 'at' is due"),
             (
                 "offer 7 priority 1 ontime 1 at 0",

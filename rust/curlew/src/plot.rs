@@ -6,7 +6,7 @@ use reference::rules;
 
 use crate::fault::Fault;
 use crate::follow::{follow, Hearer, Row, Run};
-use crate::plain::whole_file;
+use crate::plain::{way, whole_file};
 use crate::stream::Said;
 use crate::svg::{Anchor, Svg, Trace};
 use crate::text::{count, grouped, span};
@@ -122,14 +122,17 @@ fn facts(run: &Run) -> String {
     };
     let counts = run.book.counts();
     format!(
-        "Run {} · profile {} ({kind}) · {} · {} · {} taken: {} sent, {} expired, {} waiting at the end",
+        "Run {} · profile {} ({kind}){} · {} · {} · {} taken: {} sent, {} expired, \
+         {} displaced, {} waiting at the end",
         grouped(run.number),
         run.profile,
+        way(run.oldway),
         span(run.book.time()),
         count(run.last - run.first + 1, "call"),
         count(counts.accepted, "packet"),
         grouped(counts.sent),
         grouped(counts.expired),
+        grouped(counts.displaced),
         grouped(run.book.waiting())
     )
 }
@@ -137,17 +140,18 @@ fn facts(run: &Run) -> String {
 const WIDTH: f64 = 1120.0;
 const LEFT: f64 = 104.0;
 const RIGHT: f64 = 1088.0;
-const HEIGHT: f64 = 982.0;
+const HEIGHT: f64 = 1008.0;
 /// Top and bottom of each panel.
 const LOAD: (f64, f64) = (132.0, 222.0);
 const CONTROL: (f64, f64) = (266.0, 356.0);
 const LANES: (f64, f64) = (400.0, 524.0);
 const SENDS: (f64, f64) = (568.0, 642.0);
-const SINCE: (f64, f64) = (704.0, 784.0);
-const AIR: (f64, f64) = (828.0, 918.0);
+const SINCE: (f64, f64) = (730.0, 810.0);
+const AIR: (f64, f64) = (854.0, 944.0);
 const PANELS: [(f64, f64); 6] = [LOAD, CONTROL, LANES, SENDS, SINCE, AIR];
-/// Below the sends, the marks of what expired.
+/// Below the sends, the marks of what expired, and of what was displaced.
 const EXPIRED: f64 = 654.0;
+const DISPLACED: f64 = 680.0;
 /// The distance from one lane to the next, and a lane's height.
 const LANE: f64 = 32.0;
 const LANE_HEIGHT: f64 = 28.0;
@@ -185,6 +189,7 @@ text { font-family: 'Helvetica Neue', Helvetica, Arial, 'Liberation Sans', sans-
 .stem { stroke-width: 2; fill: none; }
 .lane { stroke-width: 1; fill-opacity: 0.75; }
 .cross { stroke-width: 1.4; fill: none; }
+.dropped { stroke-width: 1.2; fill-opacity: 0.35; }
 ";
 
 const PRIORITIES: [&str; 4] = ["p0", "p1", "p2", "p3"];
@@ -208,6 +213,8 @@ struct Drawing {
     stem_at: [Option<(f64, u32)>; 4],
     crosses: [String; 4],
     cross_at: [f64; 4],
+    drops: [String; 4],
+    drop_at: [f64; 4],
     since: Trace,
     since_all: Trace,
     air: Trace,
@@ -239,6 +246,8 @@ impl Drawing {
             stem_at: [None; 4],
             crosses: Default::default(),
             cross_at: [f64::NEG_INFINITY; 4],
+            drops: Default::default(),
+            drop_at: [f64::NEG_INFINITY; 4],
             since: Trace::default(),
             since_all: Trace::default(),
             air: Trace::default(),
@@ -318,6 +327,17 @@ impl Drawing {
             let (l, r, t, b) = (x - 2.4, x + 2.4, y - 2.4, y + 2.4);
             self.crosses[priority] +=
                 &format!("M{l:.1} {t:.1}L{r:.1} {b:.1}M{l:.1} {b:.1}L{r:.1} {t:.1}");
+        }
+    }
+
+    /// A packet was displaced: a mark that points down, one a pixel.
+    fn dropped(&mut self, priority: usize) {
+        let x = self.x(self.now);
+        if self.inside() && x - self.drop_at[priority] >= 1.0 {
+            self.drop_at[priority] = x;
+            let y = DISPLACED + 5.0 * priority as f64;
+            let (l, r, t, b) = (x - 2.6, x + 2.6, y - 2.2, y + 2.4);
+            self.drops[priority] += &format!("M{l:.1} {t:.1}L{r:.1} {t:.1}L{x:.1} {b:.1}Z");
         }
     }
 
@@ -448,13 +468,18 @@ impl Hearer for Drawing {
         let waited = self.lengths.iter().any(|length| *length > 0);
         let last = self.last_sent;
         let sent = row.sent.map(|packet| packet.priority as usize);
+        let dropped = row.displaced.map(|packet| packet.priority as usize);
         for (priority, column) in run.book.columns().iter().enumerate() {
             let length = column.len() as u64;
             let joined = row.record.kind == 2 && usize::from(row.record.priority) == priority;
             let had = self.lengths[priority] + u64::from(joined);
-            let left = length + u64::from(sent == Some(priority));
+            let others = [sent, dropped].map(|left| u64::from(left == Some(priority)));
+            let left = length + others.iter().sum::<u64>();
             self.waits(priority, length, had.saturating_sub(left));
             self.lengths[priority] = length;
+        }
+        if let Some(priority) = dropped {
+            self.dropped(priority);
         }
         if let Some(packet) = row.sent {
             self.sent(packet.priority as usize, packet.ontime);
@@ -494,8 +519,8 @@ impl Drawing {
         self.since_panel(&mut svg);
         self.air_panel(&mut svg);
         let description = format!(
-            "{}. From top to bottom, over the run's time: channel load, level or duty, packets waiting, packets sent and \
-             expired, time since the last admission beside the floor, air time in a sliding second beside the ceiling.",
+            "{}. From top to bottom, over the run's time: channel load, level or duty, packets waiting, packets sent, \
+             expired and displaced, time since the last admission beside the floor, air time in a sliding second beside the ceiling.",
             found.facts
         );
         svg.whole(title, &description, STYLE)
@@ -603,15 +628,22 @@ impl Drawing {
         note(
             svg,
             SENDS,
-            "crosses below: packets whose lifetime ended unsent",
+            "crosses below: packets whose lifetime ended unsent; triangles: dropped for a newer one",
         );
         svg.text((LEFT - 8.0, EXPIRED + 11.0), Anchor::End, "tick", "expired");
+        svg.text(
+            (LEFT - 8.0, DISPLACED + 11.0),
+            Anchor::End,
+            "tick",
+            "displaced",
+        );
         svg.line((LEFT, SENDS.1), (RIGHT, SENDS.1), "base");
         for priority in (0..4).rev() {
             self.end_stem(priority);
             let class = PRIORITIES[priority];
             svg.path(&self.stems[priority], &format!("stem {class}"));
             svg.path(&self.crosses[priority], &format!("cross {class}"));
+            svg.path(&self.drops[priority], &format!("dropped {class}"));
         }
     }
 

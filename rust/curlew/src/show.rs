@@ -5,7 +5,7 @@ use std::io::{self, BufWriter, StdoutLock, Write};
 
 use reference::log::Record;
 use reference::rules;
-use reference::state::State;
+use reference::state::{Counts, State};
 
 use crate::fault::Fault;
 use crate::follow::{follow, refusal_name, Hearer, Row, Run};
@@ -105,17 +105,17 @@ impl Table<'_> {
         writeln!(out, "{}, {of}", self.wish.log)?;
         writeln!(
             out,
-            "{:>6}  {:>13}  {:<43}  {:<22}  {:<23}  {:^9}  gate",
+            "{:>6}  {:>13}  {:<43}  {:<26}  {:<33}  {:^9}  gate",
             "", "time", "", "", "packets", "waiting"
         )?;
         writeln!(
             out,
-            "{:>6}  {:>13}  {:<43}  {:<22}  {}  {:^9}  level or duty, wait",
+            "{:>6}  {:>13}  {:<43}  {:<26}  {}  {:^9}  level or duty, wait",
             "record",
             "(s)",
             "call",
             "answer",
-            three(["accepted", "sent", "expired"]),
+            four(["accepted", "sent", "expired", "displaced"]),
             "0 1 2 3"
         )?;
         Ok(())
@@ -135,20 +135,20 @@ impl Hearer for Table<'_> {
         }
         self.shown += 1;
         let (mut time, mut waiting) = (String::new(), String::new());
-        let mut packets = three([""; 3]);
+        let mut packets = four([""; 4]);
         if let Some(run) = row.run {
             time = seconds(run.book.time());
             (packets, waiting) = match run.wrong {
                 None => (counts(run), lengths(run)),
-                Some(_) => (three(["?"; 3]), "? ? ? ?".to_string()),
+                Some(_) => (four(["?"; 4]), "? ? ? ?".to_string()),
             };
         }
         let line = format!(
-            "{:>6}  {:>13}  {:<43}  {:<22}  {packets}  {:^9}  {}",
+            "{:>6}  {:>13}  {:<43}  {:<26}  {packets}  {:^9}  {}",
             grouped(row.number),
             time,
             call(&row.record),
-            answer(row.said),
+            answer(row),
             waiting,
             control(row.state)
         );
@@ -171,15 +171,20 @@ fn moves_nothing(row: &Row) -> bool {
     sampled || matches!(row.said, Said::Closed(_) | Said::Idle)
 }
 
-/// What stands in the columns of the three counts.
-fn three<T: Display>([accepted, sent, expired]: [T; 3]) -> String {
-    format!("{accepted:>8} {sent:>6} {expired:>7}")
+/// What stands in the columns of the four counts.
+fn four<T: Display>([accepted, sent, expired, displaced]: [T; 4]) -> String {
+    format!("{accepted:>8} {sent:>6} {expired:>7} {displaced:>9}")
 }
 
-/// How many packets were accepted, sent and expired.
+/// How many packets were accepted, sent, expired and displaced.
 fn counts(run: &Run) -> String {
-    let counts = run.book.counts();
-    three([counts.accepted, counts.sent, counts.expired].map(grouped))
+    let Counts {
+        accepted,
+        sent,
+        expired,
+        displaced,
+    } = run.book.counts();
+    four([accepted, sent, expired, displaced].map(grouped))
 }
 
 /// How many wait in each queue.
@@ -201,7 +206,10 @@ fn call(record: &Record) -> String {
         ..
     } = record;
     match record.kind {
-        0 => format!("make, profile {priority}, stamp {}", grouped(*stamp)),
+        0 => {
+            let way = plain::way(*lifetime);
+            format!("make, profile {priority}{way}, stamp {}", grouped(*stamp))
+        }
         1 => format!("sample, {} of 1,000 busy", grouped(*id)),
         2 => {
             let lifetime = span(u64::from(*lifetime));
@@ -212,11 +220,12 @@ fn call(record: &Record) -> String {
     }
 }
 
-/// An answer, its number explained.
-fn answer(said: Said) -> String {
-    match said {
-        Said::Refused(number) => format!("REFUSED {number} {}", refusal_name(number)),
-        said => said.line(),
+/// An answer, its number explained; behind it the packet that was displaced.
+fn answer(row: &Row) -> String {
+    match (row.said, row.displaced) {
+        (Said::Refused(number), _) => format!("REFUSED {number} {}", refusal_name(number)),
+        (said, Some(packet)) => format!("{}, displaced {}", said.line(), packet.id),
+        (said, None) => said.line(),
     }
 }
 

@@ -90,10 +90,13 @@ pub struct Watch {
     held_since: Option<u64>,
     /// The packet of priority 0 whose wait was the nearest to its bound.
     pub nearest_wait: Option<Wait>,
-    /// How many packets of priority 0 were sent, and how many expired.
+    /// How many packets of priority 0 were sent, how many expired, and how many
+    /// were displaced.
     pub zero_sent: u64,
     /// See `zero_sent`.
     pub zero_expired: u64,
+    /// See `zero_sent`.
+    pub zero_displaced: u64,
     zero: VecDeque<Followed>,
     last_poll: Option<u64>,
 }
@@ -199,8 +202,8 @@ impl Watch {
         }
     }
 
-    /// Follows the packets of priority 0: who was sent, who expired, and that
-    /// none expired which had lifetime enough to be sent.
+    /// Follows the packets of priority 0: who was sent, who expired, who was
+    /// displaced, and that none of those should have been sent before.
     fn see_priority_0(
         &mut self,
         now: u64,
@@ -209,6 +212,7 @@ impl Watch {
     ) -> Result<(), String> {
         let mut left = book.columns()[0].iter().peekable();
         let mut sent = sent.filter(|packet| packet.priority == 0);
+        let displaced = book.displaced();
         let followed = std::mem::take(&mut self.zero);
         for mut packet in followed {
             let arrival = packet.entry.packet.arrival;
@@ -218,10 +222,14 @@ impl Watch {
                 self.zero.push_back(packet);
             } else if sent.take_if(|sent| *sent == packet.entry.packet).is_some() {
                 self.zero_sent += 1;
-                self.waited(packet.wait(now, book.floor()));
+                self.waited(packet.wait(now - arrival, book.floor()));
+            } else if displaced == Some(packet.entry) {
+                self.zero_displaced += 1;
+                packet.was_not_due("was displaced", now - arrival, book.floor())?;
             } else {
                 self.zero_expired += 1;
-                packet.had_too_little(now, book.floor())?;
+                let lifetime = u64::from(packet.entry.packet.lifetime);
+                packet.was_not_due("expired", lifetime, book.floor())?;
             }
         }
         for entry in left {
@@ -246,27 +254,26 @@ impl Watch {
 }
 
 impl Followed {
-    fn wait(&self, now: u64, floor: u64) -> Wait {
+    fn wait(&self, waited: u64, floor: u64) -> Wait {
         Wait {
             id: self.entry.packet.id,
             before: self.entry.above,
-            waited: now - self.entry.packet.arrival,
+            waited,
             apart: self.apart,
             floor,
         }
     }
 
-    /// An expired packet had a lifetime of at most its bound.
-    fn had_too_little(&self, now: u64, floor: u64) -> Result<(), String> {
-        let wait = self.wait(now, floor);
-        let lifetime = u64::from(self.entry.packet.lifetime);
-        if lifetime <= wait.bound() {
+    /// A packet that left unsent, and how, had lived for at most its bound.
+    fn was_not_due(&self, left: &str, lived: u64, floor: u64) -> Result<(), String> {
+        let wait = self.wait(lived, floor);
+        if lived <= wait.bound() {
             return Ok(());
         }
         Err(format!(
-            "delivery: packet {} of priority 0 expired after {}, with {} before it and polls at most {} apart",
+            "delivery: packet {} of priority 0 {left} after {}, with {} before it and polls at most {} apart",
             wait.id,
-            span(lifetime),
+            span(lived),
             wait.before,
             span(wait.apart)
         ))
@@ -280,16 +287,13 @@ mod tests {
     /// Where floor and turn are kept delivery is too, so no list of answers
     /// reaches this fault first; the check itself is tried by hand.
     #[test]
-    fn an_expiry_that_should_have_been_a_delivery() {
-        let packet = |lifetime: u32| Packet {
-            lifetime,
-            ..Packet::default()
-        };
-        let followed = |lifetime: u32, above: u64, apart: u64| Followed {
+    fn a_packet_lost_that_should_have_been_delivered() {
+        let followed = |above: u64, apart: u64| Followed {
             entry: Entry {
-                packet: packet(lifetime),
+                packet: Packet::default(),
                 above,
                 admissions_before: 0,
+                turn: 1,
             },
             apart,
         };
@@ -299,16 +303,16 @@ mod tests {
             (3, 1_050_000, 3_090_000),
         ] {
             let floor = Book::new(profile, 0).floor();
-            let bound = |above, apart| followed(1, above, apart).wait(0, floor).bound();
+            let bound = |above, apart| followed(above, apart).wait(0, floor).bound();
             assert_eq!(bound(0, 50_000), one);
-            assert_eq!(bound(2, 30_000), u64::from(three));
-            let lived = |lifetime| followed(lifetime, 2, 30_000).had_too_little(9_000_000, floor);
-            assert_eq!(lived(three), Ok(()));
-            let said = lived(three + 1).unwrap_err();
-            assert!(
-                said.starts_with("delivery: packet 0 of priority 0 expired"),
-                "{said}"
-            );
+            assert_eq!(bound(2, 30_000), three);
+            for left in ["expired", "was displaced"] {
+                let lived = |lived| followed(2, 30_000).was_not_due(left, lived, floor);
+                assert_eq!(lived(three), Ok(()));
+                let said = lived(three + 1).unwrap_err();
+                let words = format!("delivery: packet 0 of priority 0 {left} after");
+                assert!(said.starts_with(&words), "{said}");
+            }
         }
     }
 

@@ -68,7 +68,11 @@ impl Input<'_> {
     /// Any state, often a sound one.
     fn state(&mut self) -> State {
         let profile = self.of(&[1, 2, 3, 0, 4]);
-        let mut state = State::fresh(profile, self.of(&[0, 1, 1 << 31, u32::MAX]));
+        let (way, stamp) = (
+            self.of(&[0, 1, 0, 1, 2]),
+            self.of(&[0, 1, 1 << 31, u32::MAX]),
+        );
+        let mut state = State::fresh(profile, way, stamp);
         state.time = match self.byte() % 4 {
             0 => u64::from(self.number()),
             1 => (TIME_END + 2).saturating_sub(u64::from(self.byte())),
@@ -93,19 +97,23 @@ impl Input<'_> {
     /// The state with counts that add up, now and then with one that is off.
     fn counted(&mut self, state: State) -> State {
         let mut state = match self.byte() % 3 {
-            0 => state.counted(u64::from(self.number()), u64::from(self.number())),
+            0 => {
+                let [sent, expired, displaced] = [(); 3].map(|()| u64::from(self.number()));
+                state.counted(sent, expired, displaced)
+            }
             // The last offers, and one too many.
             1 => state.with_accepted(ACCEPTED_MOST + 1 - u64::from(self.byte() % 8)),
-            _ => state.counted(0, 0),
+            _ => state.counted(0, 0, 0),
         };
         let off = u64::from(self.number()) << (self.byte() % 64);
         let counts = &mut state.counts;
         match self.byte() {
-            253 => counts.accepted = counts.accepted.wrapping_add(off),
-            254 => counts.sent = counts.sent.wrapping_add(off),
+            252 => counts.accepted = counts.accepted.wrapping_add(off),
+            253 => counts.sent = counts.sent.wrapping_add(off),
+            254 => counts.displaced = counts.displaced.wrapping_add(off),
             // The sum stays right modulo 2^64.
             255 => {
-                counts.sent = counts.sent.wrapping_add(off);
+                counts.displaced = counts.displaced.wrapping_add(off);
                 counts.expired = counts.expired.wrapping_sub(off);
             }
             _ => {}
@@ -224,7 +232,7 @@ fn follow(bytes: &[u8]) {
         } else {
             hold_no_state(&raw(&state), &call, &"fuzz");
             // What was broken stays so: on with a fresh state.
-            state = State::fresh(1 + state.stamp % 3, state.stamp);
+            state = State::fresh(1 + state.stamp % 3, state.stamp / 3 % 2, state.stamp);
         }
     }
 }

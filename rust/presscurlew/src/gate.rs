@@ -1,10 +1,10 @@
 //! The gate of one radio channel: it takes samples and packets, and says when a packet may go.
 //!
 //! ```
-//! use presscurlew::{Answer, Gate, Offer, Refusal};
+//! use presscurlew::{Answer, Gate, Offer, Refusal, WhenFull};
 //!
 //! // The radio's 32-bit count wraps in the middle of this; the gate does not mind.
-//! let mut gate = Gate::new(2, 4_294_967_000)?;
+//! let mut gate = Gate::new(2, WhenFull::DropOldest, 4_294_967_000)?;
 //! gate.offer(Offer { id: 7, priority: 2, ontime: 400, lifetime: 1_000_000 }, 4_294_967_100)?;
 //! gate.offer(Offer { id: 8, priority: 1, ontime: 400, lifetime: 60_000 }, 4_294_967_100)?;
 //!
@@ -47,6 +47,37 @@ pub struct Gate {
     state: sys::State,
 }
 
+/// What a gate does with an offer that finds 5 unexpired packets of its priority.
+///
+/// ```
+/// use presscurlew::{Gate, Offer, Refusal, WhenFull};
+///
+/// let offer = |id| Offer { id, priority: 1, ontime: 400, lifetime: 60_000 };
+/// let mut dropping = Gate::new(1, WhenFull::DropOldest, 0)?;
+/// let mut refusing = Gate::new(1, WhenFull::RefuseNew, 0)?;
+/// for id in 1..=5 {
+///     dropping.offer(offer(id), 0)?;
+///     refusing.offer(offer(id), 0)?;
+/// }
+/// dropping.offer(offer(6), 0)?;
+/// assert_eq!(dropping.state().queues[1].slots.map(|packet| packet.id), [2, 3, 4, 5, 6]);
+/// assert_eq!(dropping.counts().displaced, 1);
+///
+/// assert_eq!(refusing.offer(offer(6), 0), Err(Refusal::QueueFull));
+/// assert_eq!(refusing.state().queues[1].slots.map(|packet| packet.id), [1, 2, 3, 4, 5]);
+/// # Ok::<(), Refusal>(())
+/// ```
+#[repr(u32)]
+#[derive(Clone, Copy, Debug, Default, PartialEq, Eq, Hash)]
+pub enum WhenFull {
+    /// The front one leaves, and the new one joins. What is news goes in; a packet can be displaced, though by none
+    /// before the fifth of its own priority that is taken after it.
+    #[default]
+    DropOldest = sys::DROP_OLDEST,
+    /// The new one is refused with [`Refusal::QueueFull`]. A packet that was taken is sent or expires.
+    RefuseNew = sys::REFUSE_NEW,
+}
+
 /// A packet to send.
 #[derive(Clone, Copy, Debug, PartialEq, Eq, Hash)]
 pub struct Offer {
@@ -86,15 +117,16 @@ impl fmt::Display for Answer {
 }
 
 impl Offer {
-    /// The offer at a stamp as a record of a burst ([`sys::burst`]): kind 2, priority (1 byte), on-time (2), lifetime (4),
-    /// identifier (4), stamp (4), little-endian. [`Gate::offer_burst`] does it by itself.
+    /// The offer at a stamp as a record of a burst ([`sys::burst`]): kind 2, priority (1 byte), on-time (2), lifetime
+    /// (4), identifier (4), stamp (4), little-endian. [`Gate::offer_burst`] does it by itself.
     ///
-    /// A priority above 255 is written as 255 and an on-time above 65,535 as 65,535, which is all that their bytes hold.
+    /// A priority above 255 is written as 255 and an on-time above 65,535 as 65,535, which is all that their bytes
+    /// hold.
     #[inline]
     pub fn record(self, stamp: u32) -> [u8; sys::RECORD_BYTES] {
-        // The record is refused just as the single offer is: no priority above 3 and no on-time above 4,000 is allowed in
-        // any profile, so that the number written gets 5 or 6 exactly if the one given does; and no other refusal looks
-        // at either number before 5 and 6 are settled.
+        // The record is refused just as the single offer is: no priority above 3 and no on-time above 4,000 is allowed
+        // in any profile, so that the number written gets 5 or 6 exactly if the one given does; and no other refusal
+        // looks at either number before 5 and 6 are settled.
         let priority = u8::try_from(self.priority).unwrap_or(u8::MAX);
         let ontime = u16::try_from(self.ontime).unwrap_or(u16::MAX);
         let mut record = [0; sys::RECORD_BYTES];
@@ -111,7 +143,7 @@ impl Offer {
 /// Why a call was refused. A refused call changes nothing, clock and counts included.
 #[derive(Clone, Copy, Debug, PartialEq, Eq, Hash)]
 pub enum Refusal {
-    /// The profile is not 1 to 3.
+    /// The profile is not 1 to 3. ([`sys::presscurlew_make`] answers this also if `when_full` is above 1.)
     BadProfile = 1,
     /// The step from the last stamp, modulo 2^32, is 2,147,483,648 or more.
     ClockBack = 2,
@@ -125,7 +157,7 @@ pub enum Refusal {
     BadOnTime = 6,
     /// The lifetime is 0 or above 60,000,000.
     BadLifetime = 7,
-    /// 5 unexpired packets of this priority wait.
+    /// 5 unexpired packets of this priority wait. Only a gate of [`WhenFull::RefuseNew`] answers this.
     QueueFull = 8,
     /// The state is not sound. A [`Gate`] never answers this; the calls in [`sys`] may.
     NoState = 9,
@@ -242,13 +274,13 @@ fn taken(answer: u8) -> Result<(), Refusal> {
 }
 
 impl Gate {
-    /// A fresh gate of profile 1 to 3, at the radio's stamp.
+    /// A fresh gate of profile 1 to 3, at the radio's stamp. What it does when a queue is full is fixed here.
     ///
     /// # Errors
     ///
     /// [`Refusal::BadProfile`].
-    pub fn new(profile: u32, stamp: u32) -> Result<Gate, Refusal> {
-        let turn = sys::presscurlew_make(profile, stamp);
+    pub fn new(profile: u32, when_full: WhenFull, stamp: u32) -> Result<Gate, Refusal> {
+        let turn = sys::presscurlew_make(profile, when_full as u32, stamp);
         accepted(turn.reply)?;
         Ok(Gate { state: turn.state })
     }
@@ -274,7 +306,8 @@ impl Gate {
         Ok(())
     }
 
-    /// A packet to send: it joins the back of its priority's queue.
+    /// A packet to send: it joins the back of its priority's queue. Where 5 unexpired packets wait there, [`WhenFull`]
+    /// says what happens.
     ///
     /// # Errors
     ///
@@ -293,13 +326,13 @@ impl Gate {
         Ok(())
     }
 
-    /// Packets to send, each with its stamp, in one call: exactly [`Gate::offer`] of one after the other, and faster. There
-    /// is an answer for each, in their order, and one that is refused does not stop those after it.
+    /// Packets to send, each with its stamp, in one call: exactly [`Gate::offer`] of one after the other, and faster.
+    /// There is an answer for each, in their order, and one that is refused does not stop those after it.
     ///
     /// ```
-    /// use presscurlew::{Gate, Offer, Refusal};
+    /// use presscurlew::{Gate, Offer, Refusal, WhenFull};
     ///
-    /// let mut gate = Gate::new(2, 0)?;
+    /// let mut gate = Gate::new(2, WhenFull::DropOldest, 0)?;
     /// let warning = Offer { id: 1, priority: 0, ontime: 400, lifetime: 100_000 };
     /// let too_long = Offer { id: 2, ontime: 501, ..warning };
     /// let map = Offer { id: 3, priority: 3, ..warning };
@@ -343,22 +376,22 @@ impl Gate {
         })
     }
 
-    /// How many offers were accepted, and how many of their packets were sent and how many expired; the others wait.
-    /// A packet counts as expired when it is removed: at the first offer or poll that finds it so.
+    /// How many offers were accepted, and how many of their packets were sent, expired and were displaced; the others
+    /// wait. A packet counts as expired when it is removed: at the first offer or poll that finds it so.
     ///
     /// ```
-    /// use presscurlew::{Answer, Counts, Gate, Offer};
+    /// use presscurlew::{Answer, Counts, Gate, Offer, WhenFull};
     ///
-    /// let mut gate = Gate::new(1, 0)?;
+    /// let mut gate = Gate::new(1, WhenFull::DropOldest, 0)?;
     /// for id in 0..3 {
     ///     gate.offer(Offer { id, priority: 1, ontime: 400, lifetime: 60_000 }, 0)?;
     /// }
     /// gate.poll(0)?;
-    /// assert_eq!(gate.counts(), Counts { accepted: 3, sent: 1, expired: 0 });
+    /// assert_eq!(gate.counts(), Counts { accepted: 3, sent: 1, ..Counts::default() });
     ///
     /// // The gate opens after 100 ms: too late for the other two.
     /// assert_eq!(gate.poll(100_000)?, Answer::Idle);
-    /// assert_eq!(gate.counts(), Counts { accepted: 3, sent: 1, expired: 2 });
+    /// assert_eq!(gate.counts(), Counts { accepted: 3, sent: 1, expired: 2, displaced: 0 });
     /// # Ok::<(), presscurlew::Refusal>(())
     /// ```
     pub fn counts(&self) -> Counts {
@@ -368,7 +401,7 @@ impl Gate {
     /// The state, to look at: level, duty, what waits, the running time.
     ///
     /// ```
-    /// let mut gate = presscurlew::Gate::new(1, 0)?;
+    /// let mut gate = presscurlew::Gate::new(1, presscurlew::WhenFull::DropOldest, 0)?;
     /// gate.sample_count(700, 100_000)?;
     /// assert_eq!(gate.state().tuning.level, 1);
     /// # Ok::<(), presscurlew::Refusal>(())

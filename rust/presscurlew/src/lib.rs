@@ -16,4 +16,4 @@ pub mod gate;
 pub mod rules;
 pub mod sys;
 
-pub use gate::{Answer, Counts, Gate, Offer, Packet, Refusal};
+pub use gate::{Answer, Counts, Gate, Offer, Packet, Refusal, WhenFull};

@@ -10,7 +10,7 @@
 //! ```
 //! use presscurlew::sys;
 //!
-//! let made = sys::presscurlew_make(2, 0);
+//! let made = sys::presscurlew_make(2, sys::DROP_OLDEST, 0);
 //! let offered = sys::presscurlew_offer(made.state, 7, 1, 400, 60_000, 100);
 //! let polled = sys::presscurlew_poll(offered.state, 200);
 //! assert_eq!((polled.reply.kind, polled.reply.packet.id), (sys::SENT, 7));
@@ -124,7 +124,7 @@ pub struct Last {
     pub admitted: u32,
 }
 
-/// What the gate has counted since it was made: `accepted` is `sent` + `expired` + the packets that wait.
+/// What the gate has counted since it was made: `accepted` is `sent` + `expired` + `displaced` + the packets that wait.
 #[repr(C)]
 #[derive(Clone, Copy, Debug, Default, PartialEq, Eq, Hash)]
 pub struct Counts {
@@ -134,6 +134,8 @@ pub struct Counts {
     pub sent: u64,
     /// Packets removed as expired: at an offer or a poll, never at a sample.
     pub expired: u64,
+    /// Packets dropped for a newer one of their priority, where 5 waited.
+    pub displaced: u64,
 }
 
 /// What samples steer. The profile, which says how, stands beside it in the state.
@@ -162,15 +164,22 @@ pub struct State {
     pub clock: Clock,
     /// The last admission.
     pub last: Last,
-    /// What was accepted, sent and expired.
+    /// What was accepted, sent, expired and displaced.
     pub counts: Counts,
     /// What samples steer.
     pub tuning: Tuning,
     /// The profile, 1 to 3; no call changes it.
     pub profile: u32,
+    /// [`DROP_OLDEST`] or [`REFUSE_NEW`]; no call changes it.
+    pub oldway: u32,
     /// 1; 0 in the all-zero state that a refused make hands back.
     pub live: u32,
 }
+
+/// Made so, a gate drops the front packet of a full queue for a new one.
+pub const DROP_OLDEST: u32 = 0;
+/// Made so, a gate refuses an offer to a full queue.
+pub const REFUSE_NEW: u32 = 1;
 
 /// The kind of the answer READY: the state is fresh.
 pub const READY: u32 = 0;
@@ -225,8 +234,8 @@ pub const RECORD_OFFER: u8 = 2;
 // Safe to call, but for those that take pointers: any numbers and any state at all are answered.
 #[allow(unsafe_code)]
 unsafe extern "C" {
-    /// A fresh state.
-    pub safe fn presscurlew_make(profile: u32, stamp: u32) -> Turn;
+    /// A fresh state; `when_full` is [`DROP_OLDEST`] or [`REFUSE_NEW`].
+    pub safe fn presscurlew_make(profile: u32, when_full: u32, stamp: u32) -> Turn;
 
     /// A sample by words; [`sample_words`] is the same of a slice.
     ///
@@ -284,7 +293,7 @@ pub fn sample_words(state: State, words: &[u64], stamp: u32) -> Turn {
 /// ```
 /// use presscurlew::{sys, Offer};
 ///
-/// let fresh = sys::presscurlew_make(1, 0).state;
+/// let fresh = sys::presscurlew_make(1, sys::DROP_OLDEST, 0).state;
 /// let offer = Offer { id: 7, priority: 1, ontime: 400, lifetime: 60_000 };
 /// let bad = Offer { priority: 4, ..offer };
 /// let records = [offer.record(100), bad.record(100)];
@@ -308,7 +317,7 @@ mod tests {
 
     #[test]
     fn no_words_may_be_a_null_pointer() {
-        let fresh = presscurlew_make(1, 0).state;
+        let fresh = presscurlew_make(1, DROP_OLDEST, 0).state;
         // SAFETY: with a count of 0 nothing is read.
         let turn = unsafe { presscurlew_sample_words(fresh, ptr::null(), 0, 0) };
         assert_eq!((turn.reply.kind, turn.reply.number), (REFUSED, 4));
@@ -317,7 +326,7 @@ mod tests {
 
     #[test]
     fn no_records_and_no_answers_may_be_null_pointers() {
-        let fresh = presscurlew_make(1, 0).state;
+        let fresh = presscurlew_make(1, DROP_OLDEST, 0).state;
         let record = [RECORD_OFFER; RECORD_BYTES];
         for (bytes, number) in [(0, 0), (15, 13), (16, 12)] {
             let records = if bytes == 0 {

@@ -67,12 +67,13 @@ fn compare(name: &str, input: &[u8], piece: usize) {
     panic!("{name}: the outputs differ, first at line {differs:?} (from 0)");
 }
 
-fn make(profile: u8, stamp: u32) -> Record {
+/// A make: in the old way, where a full queue refuses, if `way` is 1; in the new way, where it drops its oldest, if 0.
+fn make(profile: u8, way: u32, stamp: u32) -> Record {
     Record {
         kind: 0,
         priority: profile,
         ontime: 0,
-        lifetime: 0,
+        lifetime: way,
         id: 0,
         stamp,
     }
@@ -81,7 +82,7 @@ fn make(profile: u8, stamp: u32) -> Record {
 fn poll(stamp: u32) -> Record {
     Record {
         kind: 3,
-        ..make(0, stamp)
+        ..make(0, 0, stamp)
     }
 }
 
@@ -126,7 +127,9 @@ fn record(rng: &mut Rng, stamp: &mut u32) -> Record {
         1 + rng.below(500) as u16
     };
     let lifetimes = [0, 1, 60_000_000, 60_000_001, u32::MAX];
-    let lifetime = if rng.one_in(30) {
+    let lifetime = if kind == 0 && !rng.one_in(4) {
+        rng.below(2) as u32 // the way of a make
+    } else if rng.one_in(30) {
         rng.pick(&lifetimes)
     } else {
         1 + rng.below(3_000_000) as u32
@@ -153,7 +156,7 @@ fn bytes(records: &[Record]) -> Vec<u8> {
 fn run(seed: u64, count: usize) -> Vec<u8> {
     let mut rng = Rng::new(seed);
     let mut stamp = rng.next_u32();
-    let mut records = vec![make(1 + rng.below(3) as u8, stamp)];
+    let mut records = vec![make(1 + rng.below(3) as u8, rng.below(2) as u32, stamp)];
     while records.len() < count {
         records.push(record(&mut rng, &mut stamp));
     }
@@ -225,18 +228,41 @@ fn makes_again_and_refused_makes() {
     let mut records = Vec::new();
     for turn in 0..20_000 {
         if turn % 20 == 0 {
-            records.push(make(rng.below(6) as u8, stamp));
+            let way = rng.pick(&[0, 0, 0, 1, 1, 1, 2, 256, 1 << 31]);
+            records.push(make(rng.below(6) as u8, way, stamp));
         }
         records.push(record(&mut rng, &mut stamp));
     }
     compare("makes in mid-log, seed 51", &bytes(&records), 1 << 16);
 }
 
+/// Queues that are full, in each way: twelve offers of each priority, then polls until nothing waits.
+#[test]
+fn full_queues() {
+    let mut records = Vec::new();
+    for way in [0, 1, 2, 255, 256, 1 << 16, u32::MAX] {
+        for profile in 0..5 {
+            records.push(make(profile, way, 0));
+            let offer = |id| Record {
+                kind: 2,
+                priority: (id % 4) as u8,
+                ontime: 400,
+                lifetime: 60_000_000,
+                id,
+                stamp: id,
+            };
+            records.extend((0..48).map(offer));
+            records.extend((1..=22).map(|turn| poll(1_001_000 * turn)));
+        }
+    }
+    compare("full queues", &bytes(&records), 1 << 16);
+}
+
 #[test]
 fn to_the_end_of_time() {
     let step = (1u32 << 31) - 1;
     let mut stamp = 5u32;
-    let mut records = vec![make(3, stamp)];
+    let mut records = vec![make(3, 0, stamp)];
     for _ in 0..465_700 {
         stamp = stamp.wrapping_add(step);
         records.push(poll(stamp));

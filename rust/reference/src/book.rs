@@ -11,7 +11,15 @@
 //! 3. SENT never comes with all columns empty, and carries the packet struck.
 //! 4. A packet of priority 0 still there has seen at most k admissions.
 //! 5. IDLE comes exactly if all columns are empty.
-//! 6. W-201: offers accepted are packets sent, expired and waiting together.
+//! 6. W-201 and W-205: offers accepted are packets sent, expired, displaced and
+//!    waiting together.
+//! 7. W-205: a packet is displaced only by the fifth accepted offer of its own
+//!    priority after it came, or a later one.
+//!
+//! So a packet leaves by expiry, by displacement, or no later than with the
+//! (k+1)th admission after it came if it is of priority 0: those are the three
+//! ways in which the book strikes one, and 4 has the number. Which way the gate
+//! was made the book does not know.
 //!
 //! How often a gate refuses, and how many µs a CLOSED says, is not the book's
 //! matter. The counts of a state can be held to the book's own.
@@ -23,6 +31,9 @@ use crate::state::{Counts, Packet};
 
 /// The ceiling's part that does not grow with the window.
 pub const CEILING_BASE: i128 = 400_000;
+/// How many a column holds before an offer strikes its top one (W-205), and so
+/// the fewest offers that displace a packet.
+pub const COLUMN_ROOM: u64 = 5;
 /// The ceiling's part for each µs of the window.
 pub const CEILING_SLOPE: i128 = 3;
 
@@ -45,6 +56,9 @@ pub struct Entry {
     pub above: u64,
     /// How many admissions the run had had by then.
     pub admissions_before: u64,
+    /// How many offers of its priority had been accepted by then, itself among
+    /// them.
+    pub turn: u64,
 }
 
 /// How near a run came to what demand 3 forbids.
@@ -60,6 +74,8 @@ pub struct Closest {
     pub latest_closed: Option<u64>,
     /// The most admissions that a priority-0 packet still there has seen.
     pub most_seen: u64,
+    /// The fewest accepted offers of its own priority that displaced a packet.
+    pub fewest_offers: Option<u64>,
 }
 
 /// The book of one run.
@@ -69,7 +85,9 @@ pub struct Book {
     time: u64,
     stamp: u32,
     columns: [VecDeque<Entry>; 4],
+    offers: [u64; 4],
     counts: Counts,
+    displaced: Option<Entry>,
     last_admission: Option<u64>,
     heaviest: i128,
     closest: Closest,
@@ -83,7 +101,9 @@ impl Book {
             time: 0,
             stamp,
             columns: Default::default(),
+            offers: [0; 4],
             counts: Counts::default(),
+            displaced: None,
             last_admission: None,
             heaviest: 0,
             closest: Closest::default(),
@@ -110,9 +130,15 @@ impl Book {
         &self.columns
     }
 
-    /// How many packets were written, were admitted, and left by expiry.
+    /// How many packets were written, were admitted, left by expiry, and were
+    /// displaced.
     pub fn counts(&self) -> Counts {
         self.counts
+    }
+
+    /// The packet that the last call displaced, if it did.
+    pub fn displaced(&self) -> Option<Entry> {
+        self.displaced
     }
 
     /// How many packets stand in the columns.
@@ -133,6 +159,7 @@ impl Book {
     /// Feeds one call and its answer. An error says what part of demand 3 the
     /// answer breaks; the run then has no claim left, and the book no use.
     pub fn feed(&mut self, call: &Call, answer: &Answer) -> Result<(), String> {
+        self.displaced = None;
         if let Answer::Refused(_) = answer {
             return Ok(());
         }
@@ -159,6 +186,7 @@ impl Book {
             ("accepted", counts.accepted, self.counts.accepted),
             ("sent", counts.sent, self.counts.sent),
             ("expired", counts.expired, self.counts.expired),
+            ("displaced", counts.displaced, self.counts.displaced),
         ];
         match of.into_iter().find(|(_, state, book)| state != book) {
             Some((name, state, book)) => Err(format!(
@@ -168,19 +196,21 @@ impl Book {
         }
     }
 
-    /// W-201: accepted equals sent plus expired plus waiting.
+    /// W-201: accepted equals sent plus expired plus displaced plus waiting.
     fn add_up(&self) -> Result<(), String> {
         let Counts {
             accepted,
             sent,
             expired,
+            displaced,
         } = self.counts;
         let waiting = self.waiting();
-        if accepted == sent + expired + waiting {
+        if accepted == sent + expired + displaced + waiting {
             return Ok(());
         }
         Err(format!(
-            "counts: {accepted} accepted, but {sent} sent, {expired} expired, {waiting} waiting"
+            "counts: {accepted} accepted, but {sent} sent, {expired} expired, \
+             {displaced} displaced, {waiting} waiting"
         ))
     }
 
@@ -204,7 +234,8 @@ impl Book {
         }
     }
 
-    /// Writes an offer's packet at the foot of its priority's column.
+    /// Writes an offer's packet at the foot of its priority's column; where five
+    /// stand already it strikes the top one first, as displaced.
     fn write(&mut self, call: &Call) -> Result<(), String> {
         let Call::Offer {
             id,
@@ -224,17 +255,44 @@ impl Book {
             lifetime,
             arrival,
         };
-        let Some(column) = self.columns.get_mut(priority as usize) else {
+        let place = priority as usize;
+        if place >= self.columns.len() {
             return Err(format!(
                 "TAKEN for priority {priority}, which has no column"
             ));
-        };
+        }
+        self.offers[place] += 1;
+        self.counts.accepted += 1;
+        self.displace(place)?;
+        let column = &mut self.columns[place];
         column.push_back(Entry {
             packet,
             above: column.len() as u64,
             admissions_before: self.counts.sent,
+            turn: self.offers[place],
         });
-        self.counts.accepted += 1;
+        Ok(())
+    }
+
+    /// W-205: an offer that finds five in its column strikes the top one. Of
+    /// that one's priority, five or more offers must have been accepted after
+    /// it, the one that strikes it among them.
+    fn displace(&mut self, place: usize) -> Result<(), String> {
+        let column = &mut self.columns[place];
+        let full = column.len() as u64 >= COLUMN_ROOM;
+        let top = if full { column.pop_front() } else { None };
+        let Some(struck) = top else {
+            return Ok(());
+        };
+        self.displaced = top;
+        self.counts.displaced += 1;
+        let after = self.offers[place] - struck.turn;
+        let fewest = self.closest.fewest_offers;
+        self.closest.fewest_offers = Some(fewest.map_or(after, |old| old.min(after)));
+        if after < COLUMN_ROOM {
+            let id = struck.packet.id;
+            return Err(format!("displaced: {id}, by offer {after} after it"));
+        }
         Ok(())
     }
 
@@ -369,16 +427,42 @@ mod tests {
         assert!(said.contains("priority 0"));
     }
 
+    /// Five stand in a column only if four came after the top one, so no list
+    /// of calls and answers reaches this error; the check itself is tried on a
+    /// page whose top packet says that it came later than it did.
+    #[test]
+    fn a_packet_displaced_too_soon_is_rejected() {
+        let offer = |id| Call::Offer {
+            id,
+            priority: 2,
+            ontime: 1,
+            lifetime: 9,
+            stamp: 0,
+        };
+        let mut book = Book::new(1, 0);
+        for id in 1..=5 {
+            book.feed(&offer(id), &Answer::Taken).unwrap();
+        }
+        let mut good = book.clone();
+        good.feed(&offer(6), &Answer::Taken).unwrap();
+        assert_eq!(good.displaced().map(|entry| entry.packet.id), Some(1));
+        assert_eq!(good.closest().fewest_offers, Some(5));
+        book.columns[2][0].turn = 2;
+        let said = book.feed(&offer(6), &Answer::Taken).unwrap_err();
+        assert!(said.contains("displaced: 1, by offer 4 after it"), "{said}");
+    }
+
     /// The book counts what it writes and strikes, so no list of calls and
     /// answers reaches this error; it is tried on pages with a wrong count.
     #[test]
     fn counts_that_do_not_add_up_are_rejected() {
         let poll = Call::Poll { stamp: 0 };
         Book::new(1, 0).feed(&poll, &Answer::Idle).unwrap();
-        let bent: [fn(&mut Counts); 3] = [
+        let bent: [fn(&mut Counts); 4] = [
             |counts| counts.accepted += 1,
             |counts| counts.sent += 1,
             |counts| counts.expired += 1,
+            |counts| counts.displaced += 1,
         ];
         for bend in bent {
             let mut book = Book::new(1, 0);

@@ -2,7 +2,8 @@
 
 use crate::state::Packet;
 
-/// "Refusal numbers": profile not 1 to 3.
+/// "Refusal numbers": profile not 1 to 3. W-205: or an old way that is neither
+/// yes nor no.
 pub const BAD_PROFILE: u32 = 1;
 /// "Refusal numbers": step of 2,147,483,648 or more.
 pub const CLOCK_BACK: u32 = 2;
@@ -17,6 +18,7 @@ pub const BAD_ON_TIME: u32 = 6;
 /// "Refusal numbers": lifetime 0 or above 60,000,000.
 pub const BAD_LIFETIME: u32 = 7;
 /// "Refusal numbers": 5 unexpired packets wait in that queue at the new time.
+/// W-205: given only by a gate made in the old way.
 pub const QUEUE_FULL: u32 = 8;
 /// "Refusal numbers": the state isn't sound.
 pub const NO_STATE: u32 = 9;

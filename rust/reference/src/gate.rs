@@ -11,10 +11,11 @@ use crate::calls::{
 use crate::rules;
 use crate::state::{sound, Packet, Queue, State, QUEUES, SLOTS};
 
-/// Makes a fresh state; a refusal hands back the all-zero, not live one.
-pub fn make(profile: u32, stamp: u32) -> (State, Answer) {
-    if rules::profile_known(profile) {
-        (State::fresh(profile, stamp), Answer::Ready)
+/// Makes a fresh state, in the old way if that is 1 and in the new way if it
+/// is 0; a refusal hands back the all-zero, not live one.
+pub fn make(profile: u32, oldway: u32, stamp: u32) -> (State, Answer) {
+    if rules::profile_known(profile) && rules::way_known(oldway) {
+        (State::fresh(profile, oldway, stamp), Answer::Ready)
     } else {
         (State::default(), Answer::Refused(BAD_PROFILE))
     }
@@ -30,7 +31,8 @@ pub fn sample_count(state: State, busy: u32, stamp: u32) -> (State, Answer) {
     sample(state, rules::load_of_count(busy), stamp)
 }
 
-/// An offer of one packet: 9, 2, 3, 5, 6, 7, 8, 11, else it joins its queue.
+/// An offer of one packet: 9, 2, 3, 5, 6, 7, 8, 11, else it joins its queue,
+/// of which the oldest leaves if five wait.
 pub fn offer(
     state: State,
     id: u32,
@@ -55,6 +57,10 @@ pub fn offer(
         return (state, Answer::Refused(number));
     }
     let queue = &mut next.queues[priority as usize];
+    if queue.waiting().len() == SLOTS {
+        *queue = without_front(queue);
+        next.counts.displaced += 1;
+    }
     *queue = joined(queue, packet);
     next.counts.accepted += 1;
     (next, Answer::Taken)
@@ -150,7 +156,8 @@ fn load_learnt(state: State, load: u32) -> State {
 }
 
 /// "Refusal numbers" and W-201: checks 5, 6, 7, 8 and 11 of an offer, given
-/// the state at the new time with the expired packets gone.
+/// the state at the new time with the expired packets gone. W-205: 8 is given
+/// only in the old way.
 fn offer_refusal(state: &State, packet: &Packet) -> Option<u32> {
     if packet.priority > rules::PRIORITY_MOST {
         return Some(BAD_PRIORITY);
@@ -162,7 +169,7 @@ fn offer_refusal(state: &State, packet: &Packet) -> Option<u32> {
         return Some(BAD_LIFETIME);
     }
     let queue = &state.queues[packet.priority as usize];
-    if queue.waiting().len() == SLOTS {
+    if queue.waiting().len() == SLOTS && state.oldway == rules::OLD_WAY {
         return Some(QUEUE_FULL);
     }
     if state.counts.accepted == rules::ACCEPTED_MOST {
@@ -206,6 +213,11 @@ fn joined(queue: &Queue, packet: Packet) -> Queue {
     longer
 }
 
+/// The queue without its front packet; there must be one.
+fn without_front(queue: &Queue) -> Queue {
+    Queue::of(&queue.waiting()[1..])
+}
+
 /// The oldest packet of the lowest-numbered non-empty queue.
 fn first_waiting(state: &State) -> Option<Packet> {
     for queue in &state.queues {
@@ -236,7 +248,7 @@ fn time_left(state: &State) -> Option<u64> {
 fn admitted(state: State, packet: Packet) -> State {
     let mut next = state;
     let queue = &mut next.queues[packet.priority as usize];
-    *queue = Queue::of(&queue.waiting()[1..]);
+    *queue = without_front(queue);
     next.any = true;
     next.at = state.time;
     next.ontime = packet.ontime;

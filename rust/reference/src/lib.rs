@@ -1,8 +1,8 @@
 //! The second, independent program of the gate.
 //!
-//! It is document 01 written out plainly, with requests W-201, W-202 and W-204
-//! of document 02, to be read beside those papers and run beside the product.
-//! It shares no code and no table with the product.
+//! It is document 01 written out plainly, with requests W-201, W-202, W-204 and
+//! W-205 of document 02, to be read beside those papers and run beside the
+//! product. It shares no code and no table with the product.
 //!
 //! - [`rules`]: the rules on plain numbers, and each profile's constants
 //! - [`ccalls`]: the four calls for the radio maker's C stack

@@ -18,7 +18,7 @@ pub struct Record {
     pub priority: u8,
     /// The on-time.
     pub ontime: u16,
-    /// The lifetime.
+    /// The lifetime; of a make the old way, 1 for yes and 0 for no.
     pub lifetime: u32,
     /// The identifier; of a sample the busy count.
     pub id: u32,
@@ -60,7 +60,7 @@ pub fn step(state: State, record: &Record) -> (State, Answer) {
     let priority = u32::from(record.priority);
     let ontime = u32::from(record.ontime);
     match record.kind {
-        0 => gate::make(priority, record.stamp),
+        0 => gate::make(priority, record.lifetime, record.stamp),
         1 => gate::sample_count(state, record.id, record.stamp),
         2 => gate::offer(
             state,

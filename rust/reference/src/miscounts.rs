@@ -4,45 +4,57 @@ use crate::rng::Rng;
 use crate::rules::ACCEPTED_MOST;
 use crate::state::{Counts, State};
 
-fn counts((accepted, sent, expired): (u64, u64, u64)) -> Counts {
-    Counts {
-        accepted,
-        sent,
-        expired,
-    }
-}
+/// A place in the counts.
+type Place = fn(&mut Counts) -> &mut u64;
 
-/// Each count one off, up and down, and what leaves out those that wait.
+/// The four counts, accepted first.
+const PLACES: [Place; 4] = [
+    |counts| &mut counts.accepted,
+    |counts| &mut counts.sent,
+    |counts| &mut counts.expired,
+    |counts| &mut counts.displaced,
+];
+
+/// Each count one off, up and down; two and three of those that left, and all
+/// four, one up; a sum that leaves out those that wait, or one of the counts.
 pub fn one_off(state: &State) -> Vec<Counts> {
+    let mut off = Vec::new();
+    for place in PLACES {
+        let mut counts = state.counts;
+        *place(&mut counts) += 1;
+        off.push(counts);
+        let mut counts = state.counts;
+        if *place(&mut counts) > 0 {
+            *place(&mut counts) -= 1;
+            off.push(counts);
+        }
+    }
+    for together in [&PLACES[1..3], &PLACES[2..4], &PLACES[1..4], &PLACES[..]] {
+        let mut counts = state.counts;
+        for place in together {
+            *place(&mut counts) += 1;
+        }
+        off.push(counts);
+    }
+    let waiting = state.waiting() as u64;
     let Counts {
         accepted,
         sent,
         expired,
+        displaced,
     } = state.counts;
-    let mut sums = vec![
-        (accepted + 1, sent, expired),
-        (accepted, sent + 1, expired),
-        (accepted, sent, expired + 1),
-        (accepted, sent + 1, expired + 1),
-        (accepted + 1, sent + 1, expired + 1),
-    ];
-    if accepted > 0 {
-        sums.push((accepted - 1, sent, expired));
-    }
-    if sent > 0 {
-        sums.push((accepted, sent - 1, expired));
-    }
-    if expired > 0 {
-        sums.push((accepted, sent, expired - 1));
-    }
-    if state.waiting() > 0 {
-        sums.push((sent + expired, sent, expired));
-    }
-    sums.into_iter().map(counts).collect()
+    let sums = [waiting, sent, expired, displaced].into_iter();
+    off.extend(sums.filter(|part| *part > 0).map(|part| Counts {
+        accepted: accepted - part,
+        ..state.counts
+    }));
+    off
 }
 
 /// Sums that are right modulo 2^64 and wrong as whole numbers: more was sent,
-/// or has expired, than was accepted. Some are at edges, some random.
+/// has expired, or was displaced than was accepted. Some are at edges, some
+/// random; each of two counts stands in each two of the three places, and the
+/// third is 0 or takes a part.
 pub fn wrapping(state: &State, rng: &mut Rng) -> Vec<Counts> {
     let waiting = state.waiting() as u64;
     let mut more = vec![
@@ -64,9 +76,39 @@ pub fn wrapping(state: &State, rng: &mut Rng) -> Vec<Counts> {
         more.push((accepted, accepted + 1 + rng.below(u64::MAX - accepted)));
     }
     let mut sums = Vec::new();
+    for accepted in [0, waiting, ACCEPTED_MOST] {
+        // All three may be large: it wraps twice or more.
+        let third = accepted.wrapping_sub(waiting).wrapping_add(2);
+        sums.extend(turned([u64::MAX, u64::MAX, third]).map(|parts| counts(accepted, parts)));
+    }
     for (accepted, one) in more {
         let other = accepted.wrapping_sub(one).wrapping_sub(waiting);
-        sums.extend([(accepted, one, other), (accepted, other, one)].map(counts));
+        let part = rng.below(other.saturating_add(1));
+        for rest in [0, part] {
+            let parts = [one, other - rest, rest];
+            sums.extend(turned(parts).map(|parts| counts(accepted, parts)));
+        }
     }
     sums
+}
+
+fn counts(accepted: u64, [sent, expired, displaced]: [u64; 3]) -> Counts {
+    Counts {
+        accepted,
+        sent,
+        expired,
+        displaced,
+    }
+}
+
+/// Three numbers in all their orders.
+fn turned([a, b, c]: [u64; 3]) -> [[u64; 3]; 6] {
+    [
+        [a, b, c],
+        [a, c, b],
+        [b, a, c],
+        [b, c, a],
+        [c, a, b],
+        [c, b, a],
+    ]
 }

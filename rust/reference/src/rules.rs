@@ -105,12 +105,22 @@ pub const TIME_END: u64 = 1_000_000_000_000_000;
 pub const ACCEPTED_MOST: u64 = 1_000_000_000_000_000;
 /// The longest lifetime, in µs. The shortest is 1.
 pub const LIFETIME_MOST: u32 = 60_000_000;
+/// W-205: the number of a gate made in the new way: a full queue drops its
+/// oldest. It is the default.
+pub const NEW_WAY: u32 = 0;
+/// W-205: the number of a gate made in the old way: a full queue refuses.
+pub const OLD_WAY: u32 = 1;
 /// The highest priority number.
 pub const PRIORITY_MOST: u32 = 3;
 
 /// Whether the profile is one of the three.
 pub fn profile_known(profile: u32) -> bool {
     (1..=3).contains(&profile)
+}
+
+/// W-205: whether the number is a yes or a no to the old way.
+pub fn way_known(oldway: u32) -> bool {
+    oldway == NEW_WAY || oldway == OLD_WAY
 }
 
 /// The constants of a reactive profile, if it is one.
@@ -299,10 +309,11 @@ pub fn expired(time: u64, arrival: u64, lifetime: u32) -> bool {
     arrival <= time && time - arrival >= u64::from(lifetime)
 }
 
-/// W-201: accepted equals sent plus expired plus waiting, as whole numbers: in
-/// 128 bits three numbers of 64 don't wrap.
-pub fn counts_add_up(accepted: u64, sent: u64, expired: u64, waiting: u64) -> bool {
-    u128::from(accepted) == u128::from(sent) + u128::from(expired) + u128::from(waiting)
+/// W-201 and W-205: accepted equals sent plus expired plus displaced plus
+/// waiting, as whole numbers: in 128 bits four numbers of 64 don't wrap.
+pub fn counts_add_up(accepted: u64, parts: [u64; 4]) -> bool {
+    let sum: u128 = parts.into_iter().map(u128::from).sum();
+    u128::from(accepted) == sum
 }
 
 /// "Samples": probe k is bit k mod 64 of word k / 64; busy if that bit is 1.

@@ -1,4 +1,5 @@
-//! The state, and what makes one sound ("State and calls", and W-201's counts).
+//! The state, and what makes one sound ("State and calls", W-201's counts and
+//! W-205's way).
 //!
 //! The fields are raw, so that any state a host could build can be judged.
 
@@ -63,7 +64,7 @@ impl Queue {
     }
 }
 
-/// W-201: what has come to the gate, and how it left.
+/// W-201 and W-205: what has come to the gate, and how it left.
 #[derive(Clone, Copy, Debug, Default, PartialEq, Eq)]
 pub struct Counts {
     /// Offers accepted.
@@ -72,6 +73,16 @@ pub struct Counts {
     pub sent: u64,
     /// Packets expired, each counted at its removal.
     pub expired: u64,
+    /// Packets displaced by one that found five waiting.
+    pub displaced: u64,
+}
+
+impl Counts {
+    /// Whether accepted is the sum of what left and of so many that wait.
+    pub fn add_up(&self, waiting: u64) -> bool {
+        let parts = [self.sent, self.expired, self.displaced, waiting];
+        rules::counts_add_up(self.accepted, parts)
+    }
 }
 
 /// The state of a gate, sound or not. The default one is all-zero, not live.
@@ -81,6 +92,8 @@ pub struct State {
     pub live: bool,
     /// The profile, 1 to 3.
     pub profile: u32,
+    /// Whether it was made in the old way: 1 if so, 0 if not.
+    pub oldway: u32,
     /// The last stamp.
     pub stamp: u32,
     /// The running time in µs.
@@ -103,16 +116,17 @@ pub struct State {
     pub ontime: u32,
     /// The four queues, by priority.
     pub queues: [Queue; QUEUES],
-    /// What was accepted, sent and expired.
+    /// What was accepted, sent, expired and displaced.
     pub counts: Counts,
 }
 
 impl State {
     /// A fresh state.
-    pub fn fresh(profile: u32, stamp: u32) -> State {
+    pub fn fresh(profile: u32, oldway: u32, stamp: u32) -> State {
         State {
             live: true,
             profile,
+            oldway,
             stamp,
             duty: rules::DUTY_LEAST,
             ..State::default()
@@ -124,30 +138,33 @@ impl State {
         self.queues.iter().map(|queue| queue.waiting().len()).sum()
     }
 
-    /// The state with so many sent and expired, and as many accepted as make
-    /// them add up, for those who make states to test with.
-    pub fn counted(mut self, sent: u64, expired: u64) -> State {
+    /// The state with so many sent, expired and displaced, and as many accepted
+    /// as make them add up, for those who make states to test with.
+    pub fn counted(mut self, sent: u64, expired: u64, displaced: u64) -> State {
         self.counts = Counts {
-            accepted: sent + expired + self.waiting() as u64,
+            accepted: sent + expired + displaced + self.waiting() as u64,
             sent,
             expired,
+            displaced,
         };
         self
     }
 
     /// The state with so many accepted, at least those that wait; of the others
-    /// half were sent and the rest expired. For the same use.
+    /// half were sent, a quarter expired and the rest displaced. For the same
+    /// use.
     pub fn with_accepted(self, accepted: u64) -> State {
         let gone = accepted - self.waiting() as u64;
-        self.counted(gone / 2, gone - gone / 2)
+        let (sent, expired) = (gone / 2, gone / 4);
+        self.counted(sent, expired, gone - sent - expired)
     }
 }
 
 /// One rule of soundness: its name, and whether it holds of a state.
 type Rule = (&'static str, fn(&State) -> bool);
 
-/// The rules in the order of the paper's list, then W-201's two.
-const RULES: [Rule; 22] = [
+/// The rules in the order of the paper's list, then W-201's two and W-205's.
+const RULES: [Rule; 23] = [
     ("live", |s| s.live),
     ("profile 1 to 3", |s| rules::profile_known(s.profile)),
     ("level at most 4", |s| s.level <= rules::LEVEL_MOST),
@@ -184,17 +201,11 @@ const RULES: [Rule; 22] = [
         s.any || s.ontime == 0
     }),
     ("slots past the length zero", unused_slots_zero),
-    ("counts add up", |s| {
-        let Counts {
-            accepted,
-            sent,
-            expired,
-        } = s.counts;
-        rules::counts_add_up(accepted, sent, expired, s.waiting() as u64)
-    }),
+    ("counts add up", |s| s.counts.add_up(s.waiting() as u64)),
     ("accepted at most 10^15", |s| {
         s.counts.accepted <= rules::ACCEPTED_MOST
     }),
+    ("old way 0 or 1", |s| rules::way_known(s.oldway)),
 ];
 
 fn lengths_good(state: &State) -> bool {

@@ -1,10 +1,14 @@
 -- One test after the other: the first that fails makes the rules false, and the last is what is left of them.
 use mathlib.Core.Path.{_≡_, sym, _∙_}
-use mathlib.Core.Bool.{true, and-true}
-use borrow.Author.Tests.{not-true, not-false}
-use Rattle.rules.specs.Profiles.{isProfile, dutyAllowed}
+use mathlib.Core.Bool.{true, false, and-true}
+use Prim.Native.Nat.{ℕ, _≤_, _<_}
+use native.Mathlib.Omega.{arith}
+use lib.Dec.{eqb}
+use borrow.Author.Tests.{not-true, not-false, le-leb, lt-leb}
+use Rattle.rules.specs.Profiles.{fullLoad, topLevel, isProfile, dutyAllowed}
 use Rattle.rules.proofs.Tests.{tests}
-use Rattle.control.specs.Control.{soundControl}
+use Rattle.control.specs.declared.Tuning.{Tuning}
+use Rattle.control.specs.Control.{controlOf, pairingSound, soundControl}
 use borrow.Author.Needs.{needs}
 use Rattle.control.proofs.is_sound.Statement.{statement}
 use Rattle.control.proofs.is_sound.Tie as tie
@@ -50,20 +54,76 @@ returns-5 c =
     let b = c .before .before .before .before in
     search (tests, profile-passed (b .before .before .before .before), duty-passed b)
 
-returns-6 : tie.Need-returns-6
-unfolding soundControl
-returns-6 c =
-    let b = c .before .before .before .before .before .before in
-    search (tests, profile-passed (b .before .before .before .before), duty-passed b)
+-- what the tests before the last leave
+record Passed (profile : ℕ) (t : Tuning) : Type 0 where
+  profile-allowed : isProfile profile ≡ true
+  level : t .level ≤ topLevel
+  duty : dutyAllowed (t .duty) ≡ true
+  smoothed : t .smoothed ≤ fullLoad
+  kept : t .kept ≤ fullLoad
 
-is-pairing-sound-requires : tie.Need-is-pairing-sound-requires
-is-pairing-sound-requires c κs = search needs
+passed : (c : tie.Else5) → let a = c .before .before .before .before .before .before .before .before .before .before .args in
+    Passed (a .profile) (a .t)
+passed c =
+    let b = c .before .before .before .before in
+    record {
+      profile-allowed = profile-passed (b .before .before .before .before);
+      level = omega arith;
+      duty = duty-passed b;
+      smoothed = omega arith;
+      kept = omega arith;
+    }
+
+-- by whether a sample is kept
+none-kept : (profile : ℕ) (t : Tuning) → Passed profile t → t .pairing ≡ 0
+    → eqb (t .kept) 0 ≡ soundControl (controlOf profile t)
+unfolding soundControl pairingSound
+none-kept profile t p e =
+    simp (
+      p .profile-allowed,
+      le-leb _ _ (p .level),
+      p .duty,
+      le-leb _ _ (p .smoothed),
+      le-leb _ _ (p .kept),
+      e,
+      and-true,
+    )
+
+one-kept : (profile : ℕ) (t : Tuning) → Passed profile t → t .pairing ≡ 1
+    → eqb profile 3 ≡ soundControl (controlOf profile t)
+unfolding soundControl pairingSound
+one-kept profile t p e =
+    simp (
+      p .profile-allowed,
+      le-leb _ _ (p .level),
+      p .duty,
+      le-leb _ _ (p .smoothed),
+      le-leb _ _ (p .kept),
+      e,
+      and-true,
+    )
+
+more-kept : (profile : ℕ) (t : Tuning) → Passed profile t → 1 < t .pairing
+    → false ≡ soundControl (controlOf profile t)
+unfolding soundControl
+more-kept profile t p e =
+    simp (
+      p .profile-allowed,
+      le-leb _ _ (p .level),
+      p .duty,
+      le-leb _ _ (p .smoothed),
+      le-leb _ _ (p .kept),
+      lt-leb _ _ e,
+    )
+
+returns-6 : tie.Need-returns-6
+returns-6 c = none-kept _ _ (passed (c .before .before)) (c .before .match .keys1)
 
 returns-7 : tie.Need-returns-7
-unfolding soundControl
-returns-7 c =
-    let b = c .before .before .before .before .before .before .before in
-    search (tests, and-true, profile-passed (b .before .before .before .before), duty-passed b, c .is-pairing-sound .ensures)
+returns-7 c = one-kept _ _ (passed (c .before)) (c .match .keys2)
+
+returns-8 : tie.Need-returns-8
+returns-8 c = more-kept _ _ (passed (c .before)) (omega (arith, c .match .rest))
 
 pub is-sound-spec : {M : Type 1} → statement M
 is-sound-spec =
@@ -77,5 +137,5 @@ is-sound-spec =
     returns-4
     returns-5
     returns-6
-    is-pairing-sound-requires
-    returns-7)
+    returns-7
+    returns-8)

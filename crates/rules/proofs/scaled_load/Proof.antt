@@ -4,14 +4,14 @@ use borrow.Author.Needs.{needs}
 use Rattle.rules.proofs.scaled_load.Statement.{statement}
 use Rattle.rules.proofs.scaled_load.Tie as tie
 
-mul-result : tie.Need-mul-result
-mul-result c = search needs
-
 add-result : tie.Need-add-result
 add-result c = search needs
+
+add-result-2 : tie.Need-add-result-2
+add-result-2 c = search needs
 
 returns : tie.Need-returns
 returns c = (omega arith, omega arith)
 
 pub scaled-load-spec : {M : Type 1} → statement M
-scaled-load-spec = tie.close (tie.spec mul-result add-result returns)
+scaled-load-spec = tie.close (tie.spec add-result add-result-2 returns)

@@ -62,31 +62,41 @@ fn bursts(start: sys::State, row: &[Call]) -> End {
     end
 }
 
-/// A mix of bursts: the µs from one to the next, and the lifetime of their packets.
+/// A mix of bursts: the µs from one to the next, the lifetime of their packets, and how the gate is made.
 struct Mix {
     name: &'static str,
     step: u32,
     lifetime: u32,
+    when_full: u32,
 }
 
-const MIXES: [Mix; 3] = [
+const MIXES: [Mix; 4] = [
     // The packets of a burst have expired when the next one comes.
     Mix {
         name: "all taken",
         step: 100_000,
         lifetime: 50_000,
+        when_full: sys::DROP_OLDEST,
     },
     // So have those of every other burst.
     Mix {
         name: "half taken",
         step: 60_000,
         lifetime: 100_000,
+        when_full: sys::REFUSE_NEW,
     },
-    // The first burst fills all 20 slots, and nothing expires.
+    // The first burst fills all 20 slots, and nothing expires: each offer after it displaces one, or is refused.
     Mix {
-        name: "all slots full",
+        name: "full, dropping",
         step: 10,
         lifetime: 60_000_000,
+        when_full: sys::DROP_OLDEST,
+    },
+    Mix {
+        name: "full, refusing",
+        step: 10,
+        lifetime: 60_000_000,
+        when_full: sys::REFUSE_NEW,
     },
 ];
 
@@ -102,14 +112,14 @@ const SIDES: [Run<sys::State, End>; 2] = [singles, bursts];
 
 fn measure(mix: &Mix, profile: u32) {
     let (row, name) = (row(mix), mix.name);
-    let start = sys::presscurlew_make(profile, 0).state;
+    let start = sys::presscurlew_make(profile, mix.when_full, 0).state;
     let [one, other] = SIDES.map(|run| run(start, &row));
     assert!(one.state == other.state, "{name}: the states differ");
     assert_eq!(one.answers, other.answers, "{name}: the answers differ");
     let times = rounds(SIDES, start, &row, ROUNDS).map(median);
     let [single, burst] = times.map(|time| time * BURST as f64);
     let ratio = burst / single;
-    println!("{name:<14}{profile:>8}{single:>12.0}{burst:>10.0}{ratio:>8.2}");
+    println!("{name:<15}{profile:>7}{single:>12.0}{burst:>10.0}{ratio:>8.2}");
 }
 
 fn main() {

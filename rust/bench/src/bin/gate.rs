@@ -62,19 +62,21 @@ fn state(s: sys::State) -> State {
         accepted: s.counts.accepted,
         sent: s.counts.sent,
         expired: s.counts.expired,
+        displaced: s.counts.displaced,
         level: s.tuning.level,
         duty: s.tuning.duty,
         smoothed: s.tuning.smoothed,
         kept: s.tuning.kept,
         pairing: s.tuning.pairing,
         profile: s.profile,
+        oldway: s.oldway,
         live: s.live,
     }
 }
 
 /// One C call a turn, the state by value there and back. It starts from a fresh state, as all do.
 fn by_c_calls(start: State, row: &[Call]) -> Tally {
-    let mut now = sys::presscurlew_make(start.profile, start.stamp).state;
+    let mut now = sys::presscurlew_make(start.profile, start.oldway, start.stamp).state;
     let mut sent = 0;
     for &[kind, a, b, c, d, stamp] in row {
         let turn = match kind {
@@ -124,8 +126,48 @@ fn in_place(mut state: State, row: &[Call]) -> Tally {
     Tally { state, sent }
 }
 
-/// One call of a mix, by its number in the row: the kinds are the call log's.
-type Mix = fn(u32) -> [u32; 5];
+/// A mix of calls, on a gate made so.
+struct Mix {
+    name: &'static str,
+    /// A call by its number in the row; the kinds are the call log's.
+    call: fn(u32) -> [u32; 5],
+    /// The µs from one call to the next.
+    step: u32,
+    when_full: u32,
+}
+
+const MIXES: [Mix; 5] = [
+    Mix {
+        name: "few waiting",
+        call: few,
+        step: 70_000,
+        when_full: sys::DROP_OLDEST,
+    },
+    Mix {
+        name: "full, dropping",
+        call: full,
+        step: 30_000,
+        when_full: sys::DROP_OLDEST,
+    },
+    Mix {
+        name: "full, refusing",
+        call: full,
+        step: 30_000,
+        when_full: sys::REFUSE_NEW,
+    },
+    Mix {
+        name: "offer, SENT",
+        call: sending,
+        step: 600_000,
+        when_full: sys::DROP_OLDEST,
+    },
+    Mix {
+        name: "with samples",
+        call: sampled,
+        step: 70_000,
+        when_full: sys::DROP_OLDEST,
+    },
+];
 
 fn offered(i: u32, lifetime: u32) -> [u32; 5] {
     [2, i, i / 3 % 4, 400, lifetime]
@@ -142,7 +184,7 @@ fn few(i: u32) -> [u32; 5] {
     }
 }
 
-/// Two offers a poll, long lifetimes: all slots are full soon.
+/// Two offers a poll, long lifetimes: all slots are full soon, and then the gate drops or refuses.
 fn full(i: u32) -> [u32; 5] {
     if i % 3 == 2 {
         POLL
@@ -169,11 +211,11 @@ fn sampled(i: u32) -> [u32; 5] {
     }
 }
 
-fn row(mix: Mix, step: u32) -> Vec<Call> {
+fn row(mix: &Mix) -> Vec<Call> {
     (0..CALLS as u32)
         .map(|i| {
-            let [kind, a, b, c, d] = mix(i);
-            [kind, a, b, c, d, (i + 1).wrapping_mul(step)]
+            let [kind, a, b, c, d] = (mix.call)(i);
+            [kind, a, b, c, d, (i + 1).wrapping_mul(mix.step)]
         })
         .collect()
 }
@@ -193,9 +235,9 @@ fn spread(times: &[f64]) -> [f64; 2] {
 }
 
 /// Prints a line, and hands back the spread of each side over the places.
-fn measure(name: &str, profile: u32, mix: Mix, step: u32) -> [[f64; 2]; 4] {
-    let row = row(mix, step);
-    let start = State::new(profile, 0);
+fn measure(mix: &Mix, profile: u32) -> [[f64; 2]; 4] {
+    let (row, name) = (row(mix), mix.name);
+    let start = State::new(profile, mix.when_full, 0);
     let ends = SIDES.map(|run| run(start, &row)).map(|mut end| {
         end.state.gap = 0; // padding in the archive's state
         end
@@ -208,7 +250,7 @@ fn measure(name: &str, profile: u32, mix: Mix, step: u32) -> [[f64; 2]; 4] {
     let spreads = times.each_ref().map(|side| spread(side));
     let [ours, c, a, b] = times.map(median);
     println!(
-        "{name:<14}{profile:>8}{ours:>10.1}{c:>10.1}{a:>10.1}{b:>10.1}{:>8.2}{:>8.2}",
+        "{name:<15}{profile:>7}{ours:>10.1}{c:>10.1}{a:>10.1}{b:>10.1}{:>8.2}{:>8.2}",
         ours / a,
         ours / b
     );
@@ -220,10 +262,7 @@ fn main() {
     println!("mix            profile    Rattle   C calls       (a)       (b)   / (a)   / (b)");
     let mut by_place = Vec::new();
     for profile in [1, 3] {
-        by_place.push(measure("few waiting", profile, few, 70_000));
-        by_place.push(measure("all slots full", profile, full, 30_000));
-        by_place.push(measure("offer, SENT", profile, sending, 600_000));
-        by_place.push(measure("with samples", profile, sampled, 70_000));
+        by_place.extend(MIXES.iter().map(|mix| measure(mix, profile)));
     }
     print!("first line, by the place in the stack:");
     for (side, [least, greatest]) in ["Rattle", "C calls", "(a)", "(b)"].iter().zip(by_place[0]) {

@@ -27,7 +27,8 @@ fn the_sample_is_kept() {
     for words in [
         "Run 1: profile 2, 0.050200 s, records 1 to 8",
         "accepted: 0 samples, 2 offers, 4 polls; refused: 1 CLOCK-BACK",
-        "Counts     KEPT. 2 accepted = 1 sent + 0 expired + 1 waiting at the end. They add up at every record.",
+        "Counts     KEPT. 2 accepted = 1 sent + 0 expired + 0 displaced + 1 waiting at the end. They add up",
+        "Delivery   KEPT. No packet of priority 0 left.",
         "KEPT. Most air time in any second: 400 µs of 34 ms, up to 0.000200 s.",
         "Closest call: one packet at 0.000200 s, with 400 µs of the 4,000 µs allowed.",
         "KEPT. Latest CLOSED: 50 ms after an admission; from 1.0005 s on a poll sends.",
@@ -235,8 +236,8 @@ fn the_counts_of_each_run() {
     let told = check(&log, &answers(&log)).good().text();
     for words in [
         // 2 was removed at the offer of 4; 5 has expired, and no offer or poll has come to remove it.
-        "4 accepted = 1 sent + 1 expired + 2 waiting at the end.",
-        "0 accepted = 0 sent + 0 expired + 0 waiting at the end.",
+        "4 accepted = 1 sent + 1 expired + 0 displaced + 2 waiting at the end.",
+        "0 accepted = 0 sent + 0 expired + 0 displaced + 0 waiting at the end.",
     ] {
         assert!(told.contains(words), "no '{words}' in: {told}");
     }
@@ -244,8 +245,68 @@ fn the_counts_of_each_run() {
     let told = check(&log_of(&text), &answers(&log_of(&text)))
         .good()
         .text();
-    let words = "4 accepted = 1 sent + 2 expired + 1 waiting at the end.";
+    let words = "4 accepted = 1 sent + 2 expired + 0 displaced + 1 waiting at the end.";
     assert!(told.contains(words), "no '{words}' in: {told}");
+}
+
+/// A full queue in each of the two ways: what was displaced is told, and the other way's answers are found.
+#[test]
+fn displaced_packets_are_counted() {
+    let drops = curlew(&[
+        "check",
+        &example("drop-oldest", "log"),
+        &example("drop-oldest", "out"),
+    ]);
+    let text = drops.good().text();
+    for words in [
+        "Run 1: profile 1, 0.656400 s, records 1 to 17",
+        "9 accepted = 6 sent + 1 expired + 2 displaced + 0 waiting at the end.",
+        "2 packets displaced, none before 5 more of its own priority were taken.",
+        "Of priority 0, 5 went, 1 expired and 2 were displaced.",
+    ] {
+        assert!(text.contains(words), "no '{words}' in: {text}");
+    }
+    let keeps = curlew(&[
+        "check",
+        &example("keep-oldest", "log"),
+        &example("keep-oldest", "out"),
+    ]);
+    let text = keeps.good().text();
+    for words in [
+        "Run 1: profile 1 keep-oldest, 0.656400 s, records 1 to 17",
+        "refused: 2 QUEUE-FULL",
+        "7 accepted = 6 sent + 1 expired + 0 displaced + 0 waiting at the end.",
+        "Of priority 0, 5 went, 1 expired and 0 were displaced.",
+    ] {
+        assert!(text.contains(words), "no '{words}' in: {text}");
+    }
+    assert!(!text.contains("packets displaced"), "{text}");
+    // Each log with the answers of the other: the first that differs is found.
+    let (drops, keeps) = (example("drop-oldest", "log"), example("keep-oldest", "log"));
+    curlew(&["check", &drops, &example("keep-oldest", "out")]).failed(
+        1,
+        "record 8 (offer 6 priority 0 ontime 900 lifetime 60000000 at 30999): \
+         the answer is REFUSED 8, the right one is TAKEN",
+    );
+    curlew(&["check", &keeps, &example("drop-oldest", "out")])
+        .failed(1, "the answer is TAKEN, the right one is REFUSED 8");
+}
+
+/// A gate that displaces the newest of five, or one of another queue, sends what it should not.
+#[test]
+fn another_packet_displaced_is_found() {
+    let mut text = "make 1 at 0\n".to_string();
+    for id in 1..=6 {
+        text += &format!("offer {id} priority 2 ontime 9 lifetime 60s at +0\n");
+    }
+    let log = log_of(&(text + "poll at +0\n"));
+    let out = answers(&log);
+    assert!(out.ends_with("\nSENT 2\nEND\n"), "{out}");
+    check(&log, &out).good();
+    for wrong in ["SENT 1", "SENT 3", "SENT 6"] {
+        let words = format!("{wrong}, but packet 2 of priority 2 is first in turn");
+        check(&log, &out.replace("SENT 2", wrong)).failed(1, &words);
+    }
 }
 
 #[test]
@@ -351,6 +412,7 @@ fn random_log(rng: &mut Rng, records: u32) -> Vec<u8> {
     let make = Record {
         kind: 0,
         priority: profile,
+        lifetime: rng.below(2) as u32,
         stamp,
         ..Record::default()
     };

@@ -75,14 +75,24 @@ fn there_are_no_other_logs() {
     assert_eq!(names, wanted);
 }
 
+/// The logs of the two ways are the same calls but for the way of the make.
+#[test]
+fn the_two_ways_have_the_same_calls() {
+    let [drops, keeps] = ["drop-oldest", "keep-oldest"].map(|name| example_bytes(name, "log"));
+    let mut other = drops.clone();
+    other[4] = 1; // the lifetime field of the make
+    assert_eq!((drops[4], other), (0, keeps));
+}
+
 /// What the jam is there to show.
 #[test]
 fn in_the_jam_a_warning_goes_each_second() {
     let check = curlew(&["check", &example("jam", "log"), &example("jam", "out")]);
     let text = check.good().text();
     assert!(
-        text.contains("Of priority 0, 13 went and 0 expired."),
+        text.contains("Of priority 0, 13 went, 0 expired and 0 were displaced."),
         "{text}"
     );
     assert!(text.contains("none went: 1.02 s,"), "{text}");
+    assert!(text.contains("11 packets displaced"), "{text}");
 }

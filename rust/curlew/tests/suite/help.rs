@@ -113,10 +113,12 @@ impl Drop for Folder {
 }
 
 /// The names of the example logs.
-pub const EXAMPLES: [&str; 5] = [
+pub const EXAMPLES: [&str; 7] = [
     "sample",
     "quiet-morning",
     "jam",
+    "drop-oldest",
+    "keep-oldest",
     "clock-wrap",
     "damaged-tail",
 ];

@@ -60,13 +60,31 @@ fn each_example_has_a_picture_that_explains_itself() {
 #[test]
 fn each_packet_sent_has_a_stem() {
     let svg = picture("jam", &[]);
-    let stems: usize = svg
-        .lines()
-        .filter(|line| line.contains(r#"class="stem"#))
-        .map(|line| line.matches('M').count())
-        .sum();
-    assert_eq!(stems, 16);
-    assert!(svg.contains("58 packets taken: 16 sent, 37 expired, 5 waiting at the end"));
+    assert_eq!(marks(&svg, "stem"), 16);
+    let counts = "69 packets taken: 16 sent, 37 expired, 11 displaced, 5 waiting at the end";
+    assert!(svg.contains(counts));
+}
+
+/// How many marks of a class the picture has.
+fn marks(svg: &str, class: &str) -> usize {
+    let of = format!(r#"class="{class}"#);
+    let lines = svg.lines().filter(|line| line.contains(&of));
+    lines.map(|line| line.matches('M').count()).sum()
+}
+
+/// Displaced packets have marks of their own, and are not drawn as expired.
+#[test]
+fn each_packet_displaced_has_a_mark() {
+    let drops = picture("drop-oldest", &[]);
+    assert_eq!(marks(&drops, "dropped"), 2);
+    // The cross of one packet has two strokes.
+    assert_eq!(marks(&drops, "cross"), 2);
+    assert!(drops.contains("1 expired, 2 displaced, 0 waiting at the end"));
+    let keeps = picture("keep-oldest", &[]);
+    assert_eq!(marks(&keeps, "dropped"), 0);
+    assert_eq!(marks(&keeps, "cross"), 2);
+    assert!(keeps.contains("profile 1 (reactive) keep-oldest"));
+    assert_eq!(marks(&picture("jam", &[]), "dropped"), 11);
 }
 
 #[test]
@@ -107,12 +125,7 @@ fn a_part_of_a_run() {
     let svg = picture("jam", &["--from", "2s", "--to", "6500ms"]);
     assert_well_formed(&svg);
     assert!(svg.contains("drawn: 2 s to 6.5 s"));
-    let stems: usize = svg
-        .lines()
-        .filter(|line| line.contains(r#"class="stem"#))
-        .map(|line| line.matches('M').count())
-        .sum();
-    assert_eq!(stems, 5);
+    assert_eq!(marks(&svg, "stem"), 5);
     assert_well_formed(&picture("clock-wrap", &["--from", "500s", "--to", "600s"]));
     let folder = Folder::new();
     let plot = |from: &str, to: &str, words: &str| {

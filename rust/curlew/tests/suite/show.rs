@@ -2,7 +2,7 @@
 
 use reference::rng::Rng;
 
-use crate::help::{curlew, curlew_fed, example, example_bytes, Folder, EXAMPLES};
+use crate::help::{curlew, curlew_fed, example, example_bytes, log_of, Folder, EXAMPLES};
 
 #[test]
 fn the_sample() {
@@ -10,14 +10,14 @@ fn the_sample() {
     let shown = shown.good().text();
     let lines: Vec<String> = shown.lines().skip(3).map(squeezed).collect();
     let wanted = [
-        "1 0.000000 make, profile 2, stamp 4,294,967,000 READY 0 0 0 0 0 0 0 level 0, 50 ms",
-        "2 0.000100 offer 7: priority 2, 400 µs, lives 1 s TAKEN 1 0 0 0 0 1 0 level 0, 50 ms",
-        "3 0.000100 offer 8: priority 1, 400 µs, lives 60 ms TAKEN 2 0 0 0 1 1 0 level 0, 50 ms",
-        "4 0.000200 poll SENT 8 2 1 0 0 0 1 0 level 0, 50 ms",
-        "5 0.001000 poll CLOSED 49600 2 1 0 0 0 1 0 level 0, 50 ms",
-        "6 0.050200 poll CLOSED 400 2 1 0 0 0 1 0 level 0, 50 ms",
-        "7 0.050200 poll REFUSED 2 CLOCK-BACK 2 1 0 0 0 1 0 level 0, 50 ms",
-        "8 0.050200 poll CLOSED 400 2 1 0 0 0 1 0 level 0, 50 ms",
+        "1 0.000000 make, profile 2, stamp 4,294,967,000 READY 0 0 0 0 0 0 0 0 level 0, 50 ms",
+        "2 0.000100 offer 7: priority 2, 400 µs, lives 1 s TAKEN 1 0 0 0 0 0 1 0 level 0, 50 ms",
+        "3 0.000100 offer 8: priority 1, 400 µs, lives 60 ms TAKEN 2 0 0 0 0 1 1 0 level 0, 50 ms",
+        "4 0.000200 poll SENT 8 2 1 0 0 0 0 1 0 level 0, 50 ms",
+        "5 0.001000 poll CLOSED 49600 2 1 0 0 0 0 1 0 level 0, 50 ms",
+        "6 0.050200 poll CLOSED 400 2 1 0 0 0 0 1 0 level 0, 50 ms",
+        "7 0.050200 poll REFUSED 2 CLOCK-BACK 2 1 0 0 0 0 1 0 level 0, 50 ms",
+        "8 0.050200 poll CLOSED 400 2 1 0 0 0 0 1 0 level 0, 50 ms",
         "END",
     ];
     assert_eq!(lines, wanted);
@@ -30,12 +30,54 @@ fn the_counts_stand_in_their_columns() {
     let lines: Vec<Vec<char>> = shown.lines().map(|line| line.chars().collect()).collect();
     let heading: String = lines[2].iter().collect();
     let last = &lines[lines.len() - 2];
-    for (name, number) in [("accepted", "58"), ("sent", "16"), ("expired", "37")] {
+    for (name, number) in [
+        ("accepted", "69"),
+        ("sent", "16"),
+        ("expired", "37"),
+        ("displaced", "11"),
+    ] {
         let at = heading.find(name).unwrap();
         let column: String = last[at..at + name.len()].iter().collect();
         assert_eq!(column.trim(), number, "{shown}");
     }
     assert!(heading.is_ascii(), "bytes are columns: {heading}");
+}
+
+/// Each offer that found five says which packet it displaced; another, and one that was refused, says nothing.
+#[test]
+fn an_offer_says_what_it_displaced() {
+    let shown = curlew(&["show", &example("drop-oldest", "log")]);
+    let shown = shown.good().text();
+    let told: Vec<String> = shown
+        .lines()
+        .filter(|line| line.contains(", displaced "))
+        .map(squeezed)
+        .collect();
+    let wanted = [
+        "8 0.030999 offer 6: priority 0, 900 µs, lives 60 s TAKEN, displaced 1 7 0 0 1 5 0 0 1 level 0, 100 ms",
+        "10 0.051000 offer 8: priority 0, 900 µs, lives 60 s TAKEN, displaced 2 9 0 1 2 5 0 0 1 level 0, 100 ms",
+    ];
+    assert_eq!(told, wanted);
+    let shown = curlew(&["show", &example("keep-oldest", "log")]);
+    let shown = shown.good().text();
+    assert!(!shown.contains(", displaced "), "{shown}");
+    assert!(shown.contains("make, profile 1 keep-oldest, stamp 0"));
+    assert!(shown.contains("REFUSED 8 QUEUE-FULL"));
+}
+
+/// A refusal, a sample or a poll after an offer that displaced does not say it again.
+#[test]
+fn what_was_displaced_is_told_once() {
+    let folder = Folder::new();
+    let mut text = "make 1 at 0\n".to_string();
+    for id in 1..=6 {
+        text += &format!("offer {id} priority 2 ontime 9 lifetime 60s at +0\n");
+    }
+    text += "offer 7 priority 9 ontime 9 lifetime 60s at +0\nsample 5 at +0\npoll at +0\n";
+    let log = folder.file("a.log", log_of(&text));
+    let shown = curlew(&["show", &log]).good().text();
+    assert_eq!(shown.matches(", displaced ").count(), 1, "{shown}");
+    assert!(shown.contains("TAKEN, displaced 1 "), "{shown}");
 }
 
 fn squeezed(line: &str) -> String {
@@ -106,7 +148,7 @@ fn wrong_answers_are_marked() {
     assert!(marked[0].contains("IDLE"), "{text}");
     // From there on the book has no use.
     for line in text.lines().filter(|line| line.contains("poll")).skip(1) {
-        let unknown = line.contains("?      ?       ?   ? ? ? ?");
+        let unknown = line.contains("?      ?       ?         ?   ? ? ? ?");
         assert!(unknown || line.contains("record 5 ("), "{text}");
     }
 }

@@ -14,7 +14,7 @@ fn help_and_version() {
         assert!(help.starts_with(&format!("curlew {command}")), "{help}");
     }
     let check = curlew(&["check", "--help"]).good().text();
-    let counts = "Counts     accepted = sent + expired + waiting at every record";
+    let counts = "Counts     accepted = sent + expired + displaced + waiting at every record";
     assert!(check.contains(counts), "{check}");
     let version = curlew(&["--version"]).good().text();
     assert_eq!(version, format!("curlew {}\n", env!("CARGO_PKG_VERSION")));

@@ -20,6 +20,19 @@ fn from_and_to_files_or_streams() {
     assert_eq!(folder.names(), ["a.log"]);
 }
 
+/// A text without a word on the way is what it was; with one it is a byte more.
+#[test]
+fn the_way_of_a_make() {
+    let written = |text: &str| curlew_fed(&["write"], text.as_bytes()).good().out;
+    let plain = written("make 2 at 7\n");
+    assert_eq!(plain, [0, 2, 0, 0, 0, 0, 0, 0, 0, 0, 0, 0, 7, 0, 0, 0]);
+    assert_eq!(written("make 2 drop-oldest at 7\n"), plain);
+    let keeps = [0, 2, 0, 0, 1, 0, 0, 0, 0, 0, 0, 0, 7, 0, 0, 0];
+    assert_eq!(written("make 2 keep-oldest at 7\n"), keeps);
+    let other = [0, 2, 0, 0, 0, 1, 0, 0, 0, 0, 0, 0, 7, 0, 0, 0];
+    assert_eq!(written("make 2 way 256 at 7\n"), other);
+}
+
 #[test]
 fn an_empty_text_is_an_empty_log() {
     assert_eq!(curlew_fed(&["write"], b"").good().out, b"");

@@ -10,14 +10,15 @@ use presscurlew::sys;
 use reference::miscounts::{one_off, wrapping};
 use reference::rng::Rng;
 use reference::rules;
-use reference::state::{broken_rules, rule_names, Packet, Queue, State};
+use reference::state::{broken_rules, rule_names, Counts, Packet, Queue, State};
 
 const TIME: u64 = 5_000_000_000;
 
-/// A sound state with this many packets in each queue; something was admitted, and profile 3 keeps a sample.
+/// A sound state with this many packets in each queue; something was admitted, and profile 3 keeps a sample. With an
+/// odd number a full queue refuses, with an even one it drops its oldest.
 fn base(profile: u32, length: usize) -> State {
     let ontime = rules::on_time_max(profile).unwrap();
-    let mut state = State::fresh(profile, 77);
+    let mut state = State::fresh(profile, length as u32 % 2, 77);
     state.time = TIME;
     state.haskept = profile == 3;
     state.kept = if state.haskept { 400_000 } else { 0 };
@@ -32,7 +33,7 @@ fn base(profile: u32, length: usize) -> State {
         };
         state.queues[priority as usize] = Queue::of(&vec![packet; length]);
     }
-    state.counted(700, 40)
+    state.counted(700, 40, 9)
 }
 
 /// Broken states, each with the name of the rule that it breaks.
@@ -49,10 +50,14 @@ impl Broken {
     }
 
     fn profile_and_tuning(&mut self, profile: u32) {
-        let (empty, full) = (State::fresh(profile, 77), base(profile, 5));
+        let (empty, full) = (State::fresh(profile, 0, 77), base(profile, 5));
         self.add("live", full, |s| s.live = false);
         for bad in [0, 4, 5, 1 << 31, u32::MAX] {
             self.add("profile 1 to 3", empty, |s| s.profile = bad);
+        }
+        for bad in [2, 3, 256, 1 << 31, u32::MAX] {
+            self.add("old way 0 or 1", empty, |s| s.oldway = bad);
+            self.add("old way 0 or 1", full, |s| s.oldway = bad);
         }
         for bad in [5, 6, 1 << 31, u32::MAX] {
             self.add("level at most 4", full, |s| s.level = bad);
@@ -111,13 +116,19 @@ impl Broken {
     }
 
     fn lengths(&mut self, profile: u32) {
-        for state in [State::fresh(profile, 77), base(profile, 5)] {
+        for state in [State::fresh(profile, 1, 77), base(profile, 5)] {
             for queue in 0..4 {
                 for bad in [6, 7, 255, 1 << 32, (1 << 32) + 1, 1 << 63, u64::MAX] {
                     // The counts add up without that queue, of which nothing can be read.
                     self.add("queue length at most 5", state, |s| {
                         s.queues[queue].len = bad;
-                        *s = s.counted(s.counts.sent, s.counts.expired);
+                        let Counts {
+                            sent,
+                            expired,
+                            displaced,
+                            ..
+                        } = s.counts;
+                        *s = s.counted(sent, expired, displaced);
                     });
                 }
             }
@@ -193,7 +204,7 @@ impl Broken {
             broken.profile_and_tuning(profile);
             broken.clock_and_last(profile);
             broken.lengths(profile);
-            broken.counts(State::fresh(profile, 77), &mut rng);
+            broken.counts(State::fresh(profile, 0, 77), &mut rng);
             for length in 0..=5 {
                 broken.counts(base(profile, length), &mut rng);
                 for queue in 0..4 {
@@ -298,7 +309,7 @@ fn flags_above_1_are_refused_with_9() {
 /// The state of a refused make, and states of bytes that are all the same.
 #[test]
 fn states_of_no_sense_are_refused_with_9() {
-    let refused = sys::presscurlew_make(0, 5);
+    let refused = sys::presscurlew_make(0, sys::DROP_OLDEST, 5);
     assert_eq!(refused.state, sys::State::default());
     hold_all_calls(&refused.state, &"the all-zero state");
     let mut state = raw(&State::default());
@@ -315,11 +326,13 @@ fn states_of_no_sense_are_refused_with_9() {
             slots: [packet; 5],
         }; 4];
         state.profile = fill;
+        state.oldway = fill;
         let count = u64::from(fill);
         state.counts = sys::Counts {
             accepted: count,
             sent: count,
             expired: count,
+            displaced: count,
         };
         state.live = fill;
         hold_all_calls(&state, &format_args!("a state of {fill}"));

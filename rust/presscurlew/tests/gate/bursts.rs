@@ -4,8 +4,8 @@
 
 use crate::broken_states::broken_states;
 use crate::help::{
-    archive_burst, archive_singles, edge_or, hold, hold_burst, offer_of, raw, Answer, Burst, Call,
-    ACCEPTED_MOST, BLANK, EDGE_LIFETIMES, EDGE_STEPS, PROFILES, TIME_END,
+    archive_burst, archive_singles, edge_or, gates, hold, hold_burst, offer_of, raw, Answer, Burst,
+    Call, ACCEPTED_MOST, BLANK, EDGE_LIFETIMES, EDGE_STEPS, PROFILES, TIME_END, WAYS, WHEN_FULL,
 };
 use crate::refusals::late;
 use crate::sound_states::sound_state;
@@ -15,7 +15,7 @@ use reference::burst::burst;
 use reference::log::Record;
 use reference::rng::Rng;
 use reference::rules;
-use reference::state::{sound, State};
+use reference::state::{sound, Counts, State};
 
 const RECORD: usize = sys::RECORD_BYTES;
 
@@ -60,26 +60,28 @@ fn hold_refused(state: sys::State, records: &[u8], room: usize, number: u32) {
 fn states() -> Vec<sys::State> {
     let mut rng = Rng::new(0x204);
     let mut states = vec![sys::State::default()];
-    for profile in PROFILES {
+    for (profile, way) in gates() {
         for accepted in [5, ACCEPTED_MOST] {
-            let state = raw(&late(profile, accepted));
+            let state = raw(&late(profile, way, accepted));
             let mut unsound = state;
             unsound.tuning.level = 5;
             let mut flagged = state;
             flagged.last.admitted = 2;
             states.extend([state, unsound, flagged]);
         }
-        states.push(raw(&State::fresh(profile, 0)));
+        states.push(raw(&State::fresh(profile, way, 0)));
         states.push(raw(&sound_state(&mut rng, profile)));
     }
     states
 }
 
-/// Every number that a record can get, each from the state that the records before it left.
+/// Every number that a record can get, each from the state that the records before it left. What finds a full queue is
+/// refused with 8, or taken.
 #[test]
 fn every_number_of_a_record() {
-    for profile in PROFILES {
-        let state = late(profile, 5);
+    for (profile, way) in gates() {
+        let state = late(profile, way, 5);
+        let eight = if way == sys::REFUSE_NEW { 8 } else { 0 };
         let (now, longest) = (state.stamp, rules::on_time_max(profile).unwrap() as u16);
         let one = good(0, now);
         let stamp = |step| now.wrapping_add(step);
@@ -96,7 +98,7 @@ fn every_number_of_a_record() {
             (Record { ontime: u16::MAX, ..one }, 6),
             (Record { lifetime: 0, ..one }, 7),
             (Record { lifetime: 60_000_001, ..one }, 7),
-            (Record { priority: 1, ..one }, 8),
+            (Record { priority: 1, ..one }, eight),
             (Record { kind: 3, ..one }, 10),
             (Record { priority: 2, ontime: longest, stamp: stamp(1_000), ..one }, 0),
             (one, 2),
@@ -104,10 +106,12 @@ fn every_number_of_a_record() {
         ];
         let (records, answers): (Vec<_>, Vec<_>) = rows.into_iter().unzip();
         let next = hold_answers(&state, &records, &answers);
-        assert_eq!((next.time, next.counts.accepted), (TIME_END, 8));
-        let nearly = late(profile, ACCEPTED_MOST - 1);
+        let accepted = 5 + answers.iter().filter(|&&answer| answer == 0).count() as u64;
+        assert_eq!((next.time, next.counts.accepted), (TIME_END, accepted));
+        let nearly = late(profile, way, ACCEPTED_MOST - 1);
         let full = good(1, now);
-        hold_answers(&nearly, &[full, one, one, full, one], &[8, 0, 11, 8, 11]);
+        let spent = if way == sys::REFUSE_NEW { 8 } else { 11 };
+        hold_answers(&nearly, &[one, one, full, one], &[0, 11, spent, 11]);
         let unsound = State { level: 5, ..state };
         let poll = Record { kind: 3, ..one };
         hold_answers(&unsound, &[one, poll, full], &[9, 10, 9]);
@@ -117,7 +121,7 @@ fn every_number_of_a_record() {
 /// All priorities and on-times that a record can hold. Each packet has expired when the next one comes.
 #[test]
 fn every_priority_and_every_on_time() {
-    for profile in PROFILES {
+    for (profile, way) in gates() {
         let longest = rules::on_time_max(profile).unwrap() as u16;
         let brief = Record {
             lifetime: 1,
@@ -140,21 +144,36 @@ fn every_priority_and_every_on_time() {
             row.0.stamp = stamp;
         }
         let (records, answers): (Vec<_>, Vec<_>) = rows.into_iter().unzip();
-        hold_answers(&State::fresh(profile, 0), &records, &answers);
+        hold_answers(&State::fresh(profile, way, 0), &records, &answers);
     }
 }
 
-/// Six of one priority at once, then one when the first five have expired.
+/// Six of one priority at once, one before the first five have expired and one after.
 #[test]
 fn a_record_meets_what_those_before_it_left() {
-    for profile in PROFILES {
+    for (profile, way) in gates() {
         let short = |stamp| Record {
             lifetime: 1_000,
             ..good(2, stamp)
         };
         let mut records = vec![short(0); 6];
         records.extend([short(999), short(1_000), short(999)]);
-        let fresh = State::fresh(profile, 0);
+        let fresh = State::fresh(profile, way, 0);
+        if way == sys::DROP_OLDEST {
+            let next = hold_answers(&fresh, &records, &[0, 0, 0, 0, 0, 0, 0, 0, 2]);
+            let Counts {
+                accepted,
+                expired,
+                displaced,
+                ..
+            } = next.counts;
+            // Two are displaced, four of the same age expire, the one of 999 µs and the last wait.
+            assert_eq!(
+                (accepted, displaced, expired, next.queues[2].len),
+                (8, 2, 4, 2)
+            );
+            continue;
+        }
         let next = hold_answers(&fresh, &records, &[0, 0, 0, 0, 0, 8, 8, 0, 2]);
         let counts = (
             next.counts.accepted,
@@ -168,8 +187,8 @@ fn a_record_meets_what_those_before_it_left() {
 /// Kinds 0, 1 and 3 would make, sample and poll, and move the clock: in a burst all kinds but 2 do nothing.
 #[test]
 fn every_kind() {
-    for profile in PROFILES {
-        let state = late(profile, 5);
+    for (profile, way) in gates() {
+        let state = late(profile, way, 5);
         let now = state.stamp;
         let both = [good(0, now), good(3, now)];
         let expected = archive_singles(raw(&state), &bytes(&both), 2);
@@ -268,10 +287,11 @@ fn any_records(rng: &mut Rng, many: usize, state: &State) -> Vec<Record> {
 
 /// A state to begin a burst with: mostly a sound one.
 fn any_state(rng: &mut Rng, profile: u32, broken: &[(&str, State)]) -> State {
+    let way = rng.pick(&WAYS);
     match rng.below(6) {
-        0 => State::fresh(profile, rng.next_u32()),
-        1 => late(profile, 5),
-        2 => late(profile, ACCEPTED_MOST - rng.below(4)),
+        0 => State::fresh(profile, way, rng.next_u32()),
+        1 => late(profile, way, 5),
+        2 => late(profile, way, ACCEPTED_MOST - rng.below(4)),
         3 => broken[rng.below(broken.len() as u64) as usize].1,
         _ => sound_state(rng, profile),
     }
@@ -307,12 +327,13 @@ fn bursts_of_0_to_300_records() {
 #[test]
 fn a_burst_of_70_000_records() {
     let mut rng = Rng::new(0xb0458);
-    let state = State::fresh(3, 5);
+    let state = State::fresh(3, sys::DROP_OLDEST, 5);
     let records = bytes(&any_records(&mut rng, 70_000, &state));
     let (next, answers) = hold_burst(&state, &records, 70_001, &"70,000 records");
     let taken = answers.iter().filter(|&&answer| answer == 0).count();
     assert!(taken > 1_000, "only {taken} taken");
     assert_eq!(next.counts.accepted, taken as u64);
+    assert!(next.counts.displaced > 1_000, "{:?}", next.counts);
 }
 
 /// Random bytes as records and any room: whatever comes of it, it is what the reference says.
@@ -348,13 +369,13 @@ fn bursts_of_random_bytes() {
 /// time and counts.
 #[test]
 fn runs_with_bursts() {
-    for profile in PROFILES {
+    for (profile, way) in gates() {
         let mut rng = Rng::new(0xb045a + u64::from(profile));
         let start = rng.next_u32();
-        let (mut state, mut book) = (State::fresh(profile, start), Book::new(profile, start));
+        let (mut state, mut book) = (State::fresh(profile, way, start), Book::new(profile, start));
         let mut sent = 0;
-        for index in 0..30_000 {
-            let origin = format!("profile {profile}, turn {index}");
+        for index in 0..15_000 {
+            let origin = format!("profile {profile}, way {way}, turn {index}");
             let stamp = state.stamp.wrapping_add(rng.below(60_000) as u32);
             let busy = rng.below(1_001) as u32;
             let call = match rng.below(4) {
@@ -499,12 +520,12 @@ fn any_offer(rng: &mut Rng, last: u32) -> (Offer, u32) {
 #[test]
 fn a_gate_takes_bursts_as_single_offers() {
     let mut seen = [0; 14];
-    for profile in PROFILES {
+    for (profile, way) in gates() {
         let mut rng = Rng::new(0xb045e + u64::from(profile));
-        let start = rng.next_u32();
-        let mut bursting = Gate::new(profile, start).unwrap();
-        let mut single = Gate::new(profile, start).unwrap();
-        for index in 0..20_000 {
+        let (start, way) = (rng.next_u32(), WHEN_FULL[way as usize]);
+        let mut bursting = Gate::new(profile, way, start).unwrap();
+        let mut single = Gate::new(profile, way, start).unwrap();
+        for index in 0..10_000 {
             let (mut offers, mut expected) = (vec![], vec![]);
             for _ in 0..rng.below(25) {
                 let (offer, stamp) = any_offer(&mut rng, single.state().clock.stamp);

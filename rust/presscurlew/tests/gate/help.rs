@@ -2,7 +2,7 @@
 
 use std::fmt::Display;
 
-use presscurlew::sys;
+use presscurlew::{sys, WhenFull};
 use reference::burst;
 use reference::gate;
 use reference::log::{Record, RECORD_BYTES};
@@ -13,6 +13,17 @@ use reference::state::{Counts, Packet, Queue, State};
 pub use reference::gate::{Answer, Call};
 
 pub const PROFILES: [u32; 3] = [1, 2, 3];
+/// What a gate does when a queue is full.
+pub const WAYS: [u32; 2] = [sys::DROP_OLDEST, sys::REFUSE_NEW];
+/// The same, as `Gate` has it.
+pub const WHEN_FULL: [WhenFull; 2] = [WhenFull::DropOldest, WhenFull::RefuseNew];
+
+/// Each profile in each way.
+pub fn gates() -> impl Iterator<Item = (u32, u32)> {
+    let profiles = PROFILES.into_iter();
+    profiles.flat_map(|profile| WAYS.map(|way| (profile, way)))
+}
+
 pub const TIME_END: u64 = 1_000_000_000_000_000;
 /// The most offers that a state accepts.
 pub const ACCEPTED_MOST: u64 = 1_000_000_000_000_000;
@@ -100,6 +111,7 @@ pub fn raw(state: &State) -> sys::State {
             pairing: u32::from(state.haskept),
         },
         profile: state.profile,
+        oldway: state.oldway,
         live: u32::from(state.live),
     }
 }
@@ -110,6 +122,7 @@ pub fn raw_counts(counts: &Counts) -> sys::Counts {
         accepted: counts.accepted,
         sent: counts.sent,
         expired: counts.expired,
+        displaced: counts.displaced,
     }
 }
 

@@ -12,7 +12,7 @@ const LAYOUT: &str = include_str!("../../../../examples/c/layout.out");
 macro_rules! layout {
     ($text:ident, $name:literal, $type:ty, $($field:ident),+) => {
         writeln!($text, "{} {} bytes", $name, size_of::<$type>()).unwrap();
-        $(writeln!($text, "  {:<8} at {:>3}", stringify!($field), offset_of!($type, $field)).unwrap();)+
+        $(writeln!($text, "  {:<9} at {:>3}", stringify!($field), offset_of!($type, $field)).unwrap();)+
     };
 }
 
@@ -23,9 +23,9 @@ fn structs_lie_as_c_sees_them() {
     layout!(text, "queue", Queue, len, slots);
     layout!(text, "clock", Clock, time, stamp);
     layout!(text, "last", Last, at, ontime, admitted);
-    layout!(text, "counts", Counts, accepted, sent, expired);
+    layout!(text, "counts", Counts, accepted, sent, expired, displaced);
     layout!(text, "tuning", Tuning, level, duty, smoothed, kept, pairing);
-    layout!(text, "state", State, queues, clock, last, counts, tuning, profile, live);
+    layout!(text, "state", State, queues, clock, last, counts, tuning, profile, oldway, live);
     layout!(text, "reply", Reply, packet, number, kind);
     layout!(text, "turn", Turn, state, reply);
     layout!(text, "burst_turn", BurstTurn, state, number);

@@ -4,6 +4,7 @@
 //! - `sound_states`: sound states that no run need reach
 //! - `broken_states`: states with one rule of soundness broken
 //! - `bursts`: many offers in one call
+//! - `displaced`: what an offer does to a full queue
 //! - `refusals`: which refusal comes first, and that it changes nothing
 //! - `samples`: the busy count of words
 //! - `sample_log`: the requirement's own log
@@ -12,6 +13,7 @@
 
 mod broken_states;
 mod bursts;
+mod displaced;
 mod help;
 mod layout;
 mod refusals;

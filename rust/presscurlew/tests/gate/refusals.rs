@@ -2,14 +2,14 @@
 //! numbers stand here as a table, apart from the reference.
 
 use crate::help::{
-    archive, first_busy, raw, raw_reply, Answer, Call, ACCEPTED_MOST, PROFILES, TIME_END,
+    archive, first_busy, gates, raw, raw_reply, Answer, Call, ACCEPTED_MOST, TIME_END,
 };
 use presscurlew::sys;
 use reference::rules;
 use reference::state::{Packet, Queue, State};
 
 /// A sound state near the end of time whose queue 1 is full until the end, with so many offers accepted.
-pub fn late(profile: u32, accepted: u64) -> State {
+pub fn late(profile: u32, way: u32, accepted: u64) -> State {
     let time = TIME_END - 1_000;
     let packet = Packet {
         id: 5,
@@ -18,7 +18,7 @@ pub fn late(profile: u32, accepted: u64) -> State {
         lifetime: 60_000_000,
         arrival: time,
     };
-    let mut state = State::fresh(profile, u32::MAX - 10);
+    let mut state = State::fresh(profile, way, u32::MAX - 10);
     state.time = time;
     state.queues[1] = Queue::of(&[packet; 5]);
     state.with_accepted(accepted)
@@ -49,9 +49,9 @@ const STEPS: [(u32, u32); 5] = [
 
 /// A state, and two that are not sound, with the stamps of the steps from it.
 fn each_place(mut hold: impl FnMut(u32, &sys::State, u32, u32)) {
-    for profile in PROFILES {
+    for (profile, way) in gates() {
         for accepted in [5, ACCEPTED_MOST - 1, ACCEPTED_MOST] {
-            let state = raw(&late(profile, accepted));
+            let state = raw(&late(profile, way, accepted));
             let mut unsound = state;
             unsound.tuning.level = 5;
             let mut miscounted = state;
@@ -87,7 +87,8 @@ fn offers_are_refused_in_order() {
                 (u32::MAX, 6),
             ] {
                 for (lifetime, seven) in [(0, 7), (1, 0), (60_000_000, 0), (60_000_001, 7)] {
-                    let eight = if priority == 1 { 8 } else { 0 };
+                    let refuses = state.oldway == sys::REFUSE_NEW;
+                    let eight = if priority == 1 && refuses { 8 } else { 0 };
                     let call = Call::Offer {
                         id: 0,
                         priority,
@@ -143,11 +144,11 @@ fn polls_are_refused_in_order() {
 }
 
 /// Five wait, and the first expires at one moment: full one µs before it, room from it on, unless the offers are
-/// spent. A refused offer removes nothing.
+/// spent. A refused offer removes nothing, whether it is refused with 8 or, in a gate that drops the oldest, with 11.
 #[test]
 fn full_until_one_expires() {
-    for profile in PROFILES {
-        let mut state = State::fresh(profile, 0);
+    for (profile, way) in gates() {
+        let mut state = State::fresh(profile, way, 0);
         let packet = Packet {
             id: 5,
             priority: 2,
@@ -163,7 +164,8 @@ fn full_until_one_expires() {
         }]);
         for (accepted, eleven) in [(6, 0), (ACCEPTED_MOST - 1, 0), (ACCEPTED_MOST, 11)] {
             let state = raw(&state.with_accepted(accepted));
-            for (stamp, number) in [(0, 8), (59_999, 8), (60_000, eleven)] {
+            let full = if way == sys::REFUSE_NEW { 8 } else { eleven };
+            for (stamp, number) in [(0, full), (59_999, full), (60_000, eleven)] {
                 let call = Call::Offer {
                     id: 6,
                     priority: 2,

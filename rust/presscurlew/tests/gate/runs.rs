@@ -4,7 +4,7 @@ use std::fmt;
 
 use crate::help::{
     edge_or, hold, random_words, raw, raw_reply, Answer, Call, ACCEPTED_MOST, EDGE_COUNTS,
-    EDGE_LIFETIMES, EDGE_ONTIMES, EDGE_PRIORITIES, EDGE_STEPS, PROFILES, TIME_END,
+    EDGE_LIFETIMES, EDGE_ONTIMES, EDGE_PRIORITIES, EDGE_STEPS, PROFILES, TIME_END, WAYS,
 };
 use presscurlew::sys;
 use reference::book::Book;
@@ -163,6 +163,7 @@ struct Tally {
     idle: u64,
     closed: u64,
     refused: [u64; 12],
+    displaced: u64,
 }
 
 impl Tally {
@@ -182,6 +183,7 @@ impl Tally {
 struct Place {
     seed: u64,
     profile: u32,
+    way: u32,
     style: Style,
     call: u64,
 }
@@ -191,44 +193,40 @@ impl fmt::Display for Place {
         let Place {
             seed,
             profile,
+            way,
             style,
             call,
         } = self;
         write!(
             f,
-            "seed {seed:#x}, profile {profile}, {style:?}, call {call}"
+            "seed {seed:#x}, profile {profile}, way {way}, {style:?}, call {call}"
         )
     }
 }
 
 /// A fresh state, held to the reference.
-fn made(profile: u32, stamp: u32) -> State {
-    let (state, answer) = gate::make(profile, stamp);
-    let turn = sys::presscurlew_make(profile, stamp);
+fn made(profile: u32, way: u32, stamp: u32) -> State {
+    let (state, answer) = gate::make(profile, way, stamp);
+    let turn = sys::presscurlew_make(profile, way, stamp);
     let expected = sys::Turn {
         state: raw(&state),
         reply: raw_reply(&answer),
     };
-    assert_eq!(turn, expected, "make({profile}, {stamp})");
+    assert_eq!(turn, expected, "make({profile}, {way}, {stamp})");
     state
 }
 
-/// One run of so many calls, from a fresh state; the book is kept beside it.
-fn run(profile: u32, style: Style, seed: u64, calls: u64, tally: &mut Tally) {
+/// One run from a fresh state; the book is kept beside it.
+fn run(mut place: Place, tally: &mut Tally) {
+    let Place { profile, way, .. } = place;
     let mut caller = Caller {
-        rng: Rng::new(seed),
-        style,
+        rng: Rng::new(place.seed),
+        style: place.style,
     };
     let stamp = caller.rng.next_u32();
-    let mut state = made(profile, stamp);
+    let mut state = made(profile, way, stamp);
     let mut book = Book::new(profile, stamp);
-    let mut place = Place {
-        seed,
-        profile,
-        style,
-        call: 0,
-    };
-    for call in 0..calls {
+    for call in 0..CALLS {
         place.call = call;
         let asked = caller.call(&state);
         let (next, answer) = hold(&state, &asked, &place);
@@ -239,25 +237,39 @@ fn run(profile: u32, style: Style, seed: u64, calls: u64, tally: &mut Tally) {
         state = next;
     }
     assert_eq!(book.time(), state.time, "{place}");
+    tally.displaced += state.counts.displaced;
 }
+
+/// The calls of a run.
+const CALLS: u64 = 50_000;
 
 /// Runs of every style in one profile, of which every answer must have come often.
 fn runs(profile: u32) {
-    let mut tally = Tally::default();
-    for (index, style) in (0u64..).zip(STYLES) {
-        for seed in 0..10 {
-            let seed = 0x5eed_0000 + u64::from(profile) * 0x1000 + index * 0x100 + seed;
-            run(profile, style, seed, 50_000, &mut tally);
+    for way in WAYS {
+        let mut tally = Tally::default();
+        for (index, style) in (0u64..).zip(STYLES) {
+            for seed in 0..5 {
+                let place = Place {
+                    seed: 0x5eed_0000 + u64::from(profile) * 0x1000 + index * 0x100 + seed,
+                    profile,
+                    way,
+                    style,
+                    call: 0,
+                };
+                run(place, &mut tally);
+            }
         }
+        let answers = [tally.taken, tally.sent, tally.idle, tally.closed];
+        assert!(answers.iter().all(|&count| count > 50_000), "{tally:?}");
+        for number in [2, 4, 5, 6, 7] {
+            assert!(tally.refused[number] > 1_000, "{number}: {tally:?}");
+        }
+        // A full queue either drops or refuses.
+        let full = [tally.displaced, tally.refused[8]];
+        assert!(full[way as usize] > 1_000, "way {way}: {tally:?}");
+        assert_eq!(full[1 - way as usize], 0, "way {way}: {tally:?}");
+        assert_eq!((tally.refused[9], tally.refused[11]), (0, 0));
     }
-    let answers = [tally.taken, tally.sent, tally.idle, tally.closed];
-    assert!(answers.iter().all(|&count| count > 100_000), "{tally:?}");
-    let numbers = [2, 4, 5, 6, 7, 8];
-    assert!(
-        numbers.iter().all(|&number| tally.refused[number] > 1_000),
-        "{tally:?}"
-    );
-    assert_eq!((tally.refused[9], tally.refused[11]), (0, 0));
 }
 
 #[test]
@@ -282,9 +294,11 @@ fn runs_that_spend_their_offers() {
     for profile in PROFILES {
         for (style, left) in STYLES.into_iter().zip([0, 1, 2, 50, 500, 1_000]) {
             let seed = 0x59e4_0000 + u64::from(profile) * 0x1000 + left;
+            let way = (seed % 3 % 2) as u32;
             let mut place = Place {
                 seed,
                 profile,
+                way,
                 style,
                 call: 0,
             };
@@ -293,7 +307,7 @@ fn runs_that_spend_their_offers() {
                 style,
             };
             let mut tally = Tally::default();
-            let mut state = made(profile, 7).with_accepted(ACCEPTED_MOST - left);
+            let mut state = made(profile, way, 7).with_accepted(ACCEPTED_MOST - left);
             for call in 0..20_000 {
                 place.call = call;
                 let asked = caller.call(&state);
@@ -311,7 +325,7 @@ fn runs_that_spend_their_offers() {
 #[test]
 fn runs_that_reach_the_floor() {
     for (profile, floor) in [(1, 1_001_000), (2, 1_000_500), (3, 1_000_000)] {
-        let mut state = made(profile, 0);
+        let mut state = made(profile, sys::DROP_OLDEST, 0);
         let mut asked = vec![];
         if profile != 3 {
             let (busy, stamp) = (1_000, 0);
@@ -344,15 +358,18 @@ fn runs_that_reach_the_floor() {
     }
 }
 
-/// A make of any profile and stamp: only 1 to 3 are ready, else the all-zero state comes back.
+/// A make of any profile, way and stamp: only 1 to 3 in a known way are ready, else the all-zero state comes back.
 #[test]
 fn makes() {
     let stamps = [0, 1, 1 << 31, u32::MAX];
     for profile in (0..300).chain([1 << 31, u32::MAX - 1, u32::MAX]) {
-        for stamp in stamps {
-            let state = made(profile, stamp);
-            assert_eq!(state.live, PROFILES.contains(&profile));
-            assert_eq!(state == State::default(), !state.live);
+        for way in [0, 1, 2, 3, 255, 256, 257, 1 << 16, 1 << 31, u32::MAX] {
+            for stamp in stamps {
+                let state = made(profile, way, stamp);
+                let good = PROFILES.contains(&profile) && WAYS.contains(&way);
+                assert_eq!(state.live, good, "make({profile}, {way}, {stamp})");
+                assert_eq!(state == State::default(), !state.live);
+            }
         }
     }
 }
@@ -362,7 +379,7 @@ fn makes() {
 fn run_to_the_end_of_time() {
     let mut rng = Rng::new(0xe4d);
     for profile in PROFILES {
-        let mut state = made(profile, 7);
+        let mut state = made(profile, sys::REFUSE_NEW, 7);
         let mut book = Book::new(profile, 7);
         let mut ends = 0;
         while ends < 1_000 {

@@ -2,8 +2,9 @@
 
 use crate::help::{
     edge_or, random_words, raw, raw_counts, Answer, Call, EDGE_COUNTS, EDGE_STEPS, PROFILES,
+    WHEN_FULL,
 };
-use presscurlew::{Gate, Offer, Packet, Refusal};
+use presscurlew::{Gate, Offer, Packet, Refusal, WhenFull};
 use reference::book::Book;
 use reference::gate;
 use reference::rng::Rng;
@@ -37,7 +38,8 @@ fn taken(answer: Result<(), Refusal>) -> Result<Answer, Refusal> {
     answer.map(|()| Answer::Taken)
 }
 
-fn polled(answer: presscurlew::Answer) -> Answer {
+/// The answer to a poll in the reference's words.
+pub fn polled(answer: presscurlew::Answer) -> Answer {
     match answer {
         presscurlew::Answer::Sent(Packet {
             id,
@@ -61,7 +63,7 @@ fn any_call(rng: &mut Rng, last: u32) -> Call {
     let step = if rng.one_in(30) {
         rng.pick(&EDGE_STEPS)
     } else {
-        rng.below(90_000) as u32
+        rng.below(30_000) as u32
     };
     let stamp = last.wrapping_add(step);
     match rng.below(8) {
@@ -87,34 +89,50 @@ fn any_call(rng: &mut Rng, last: u32) -> Call {
 #[test]
 fn a_gate_says_what_the_reference_says() {
     for profile in PROFILES {
-        let mut rng = Rng::new(0x5afe + u64::from(profile));
-        let stamp = rng.next_u32();
-        let mut gate = Gate::new(profile, stamp).unwrap();
-        let (mut state, _) = gate::make(profile, stamp);
-        let mut book = Book::new(profile, stamp);
-        for index in 0..200_000 {
-            let call = any_call(&mut rng, state.stamp);
-            let (next, answer) = gate::call(state, &call);
-            assert_eq!(
-                (said(&mut gate, &call), *gate.state()),
-                (answer, raw(&next)),
-                "profile {profile}, call {index}: {call:?}"
-            );
-            book.feed(&call, &answer).unwrap();
-            assert_eq!(
-                gate.counts(),
-                raw_counts(&book.counts()),
-                "profile {profile}, call {index}: {call:?}"
-            );
-            state = next;
+        for way in WHEN_FULL {
+            follow(profile, way);
         }
+    }
+}
+
+/// A gate, the reference and the book, call by call.
+fn follow(profile: u32, way: WhenFull) {
+    let mut rng = Rng::new(0x5afe + u64::from(profile));
+    let stamp = rng.next_u32();
+    let mut gate = Gate::new(profile, way, stamp).unwrap();
+    let (mut state, _) = gate::make(profile, way as u32, stamp);
+    let mut book = Book::new(profile, stamp);
+    for index in 0..100_000 {
+        let call = any_call(&mut rng, state.stamp);
+        let (next, answer) = gate::call(state, &call);
+        let place = format!("profile {profile}, {way:?}, call {index}: {call:?}");
+        let given = (said(&mut gate, &call), *gate.state());
+        assert_eq!(given, (answer, raw(&next)), "{place}");
+        book.feed(&call, &answer).unwrap();
+        assert_eq!(gate.counts(), raw_counts(&book.counts()), "{place}");
+        state = next;
+    }
+    let drops = way == WhenFull::DropOldest;
+    assert_eq!(state.counts.displaced > 0, drops, "{:?}", state.counts);
+}
+
+/// The numbers that the archive knows the two ways by.
+#[test]
+fn ways_have_their_numbers() {
+    assert_eq!(WHEN_FULL.map(|way| way as u32), [0, 1]);
+    assert_eq!(WhenFull::default(), WhenFull::DropOldest);
+    for way in WHEN_FULL {
+        let gate = Gate::new(1, way, 0).unwrap();
+        assert_eq!(gate.state().oldway, way as u32);
     }
 }
 
 #[test]
 fn bad_profiles_make_no_gate() {
     for profile in [0, 4, u32::MAX] {
-        assert_eq!(Gate::new(profile, 0), Err(Refusal::BadProfile));
+        for way in WHEN_FULL {
+            assert_eq!(Gate::new(profile, way, 0), Err(Refusal::BadProfile));
+        }
     }
 }
 

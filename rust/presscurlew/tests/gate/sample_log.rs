@@ -1,7 +1,7 @@
 //! The requirement's own log: make profile 2 at 4294967000, two offers, five polls.
 
 use crate::help::{archive, Call};
-use presscurlew::{sys, Counts, Gate, Offer};
+use presscurlew::{sys, Counts, Gate, Offer, WhenFull};
 
 const LOG: [&str; 8] = [
     "READY",
@@ -19,6 +19,7 @@ const COUNTS: Counts = Counts {
     accepted: 2,
     sent: 1,
     expired: 0,
+    displaced: 0,
 };
 
 const POLLS: [u32; 5] = [4_294_967_200, 704, 49_904, 49_903, 49_904];
@@ -53,7 +54,7 @@ fn line(reply: &sys::Reply) -> String {
 
 #[test]
 fn by_the_archive() {
-    let mut turn = sys::presscurlew_make(2, 4_294_967_000);
+    let mut turn = sys::presscurlew_make(2, sys::DROP_OLDEST, 4_294_967_000);
     let mut lines = vec![line(&turn.reply)];
     let stamp = 4_294_967_100;
     let offers = offers().map(
@@ -83,7 +84,7 @@ fn by_the_archive() {
 
 #[test]
 fn by_the_gate() {
-    let mut gate = Gate::new(2, 4_294_967_000).unwrap();
+    let mut gate = Gate::new(2, WhenFull::DropOldest, 4_294_967_000).unwrap();
     let mut lines = vec!["READY".to_string()];
     for offer in offers() {
         gate.offer(offer, 4_294_967_100).unwrap();

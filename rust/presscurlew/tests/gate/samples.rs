@@ -12,7 +12,7 @@ fn count(words: &[u64]) -> u32 {
 }
 
 fn hold_count(words: &[u64], origin: &str) {
-    let fresh = sys::presscurlew_make(3, 0).state;
+    let fresh = sys::presscurlew_make(3, sys::DROP_OLDEST, 0).state;
     let turn = sys::sample_words(fresh, words, 0);
     let mut expected = fresh;
     expected.tuning.pairing = 1;
@@ -69,7 +69,7 @@ fn random_words_are_counted() {
 /// Bits 40 to 63 of the last word are no probes: each alone spoils a sample.
 #[test]
 fn a_stray_bit_is_no_sample() {
-    let fresh = sys::presscurlew_make(3, 0).state;
+    let fresh = sys::presscurlew_make(3, sys::DROP_OLDEST, 0).state;
     for bit in 40..64 {
         for mut words in [first_busy(0), first_busy(500), first_busy(1_000)] {
             words[15] |= 1 << bit;

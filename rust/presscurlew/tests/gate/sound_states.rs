@@ -1,8 +1,9 @@
 //! Sound states made field by field. Most are reached by no run: a level in profile 3, a duty in profile 1,
-//! queues of packets that expired long ago, any running time beside any stamp, any counts that add up.
+//! queues of packets that expired long ago, any running time beside any stamp, any counts that add up, displaced ones in
+//! a gate that refuses.
 
 use crate::help::{
-    calls_at, edge_or, hold, Answer, Call, ACCEPTED_MOST, EDGE_STEPS, PROFILES, TIME_END,
+    calls_at, edge_or, hold, Answer, Call, ACCEPTED_MOST, EDGE_STEPS, PROFILES, TIME_END, WAYS,
 };
 use reference::rng::Rng;
 use reference::rules;
@@ -22,9 +23,16 @@ fn time_up_to(rng: &mut Rng, most: u64) -> u64 {
     }
 }
 
+/// A queue, now and then a full one of packets that came of late: these have most of their lives before them.
 fn queue(rng: &mut Rng, profile: u32, priority: u32, time: u64) -> Queue {
-    let length = rng.below(6);
-    let mut arrivals: Vec<u64> = (0..length).map(|_| time_up_to(rng, time)).collect();
+    let (length, earliest, lifetimes) = match rng.below(3) {
+        0 => (5, time.saturating_sub(500_000), [3_000_000, 60_000_000]),
+        1 => (rng.below(6), 0, [1, 1_000_000]),
+        _ => (rng.below(6), 0, [59_999_999, 60_000_000]),
+    };
+    let mut arrivals: Vec<u64> = (0..length)
+        .map(|_| earliest + time_up_to(rng, time - earliest))
+        .collect();
     arrivals.sort_unstable();
     let longest = u64::from(rules::on_time_max(profile).unwrap());
     let packets: Vec<Packet> = arrivals
@@ -33,7 +41,7 @@ fn queue(rng: &mut Rng, profile: u32, priority: u32, time: u64) -> Queue {
             id: rng.next_u32(),
             priority,
             ontime: 1 + rng.below(longest) as u32,
-            lifetime: rng.pick(&[1, 1_000_000, 59_999_999, 60_000_000]),
+            lifetime: rng.pick(&lifetimes),
             arrival,
         })
         .collect();
@@ -47,6 +55,7 @@ pub fn sound_state(rng: &mut Rng, profile: u32) -> State {
     let mut state = State {
         live: true,
         profile,
+        oldway: rng.pick(&WAYS),
         stamp: rng.next_u32(),
         time,
         level: rng.below(5) as u32,
@@ -80,12 +89,14 @@ fn counted(rng: &mut Rng, state: State) -> State {
         2 => rng.below(3),
         _ => rng.below(most + 1),
     };
-    let sent = match rng.below(4) {
+    let mut part = |whole: u64| match rng.below(4) {
         0 => 0,
-        1 => gone,
-        _ => rng.below(gone + 1),
+        1 => whole,
+        _ => rng.below(whole + 1),
     };
-    state.counted(sent, gone - sent)
+    let sent = part(gone);
+    let expired = part(gone - sent);
+    state.counted(sent, expired, gone - sent - expired)
 }
 
 #[test]
@@ -115,8 +126,12 @@ fn with_edge_counts(state: State) -> Vec<State> {
     let most = ACCEPTED_MOST - state.waiting() as u64;
     let mut states = Vec::new();
     for gone in [0, 1, most - 1, most] {
-        for sent in [0, 1.min(gone), gone] {
-            states.extend([state, unadmitted].map(|state| state.counted(sent, gone - sent)));
+        for one in [0, 1.min(gone), gone] {
+            let other = gone - one;
+            for [sent, expired, displaced] in [[one, other, 0], [one, 0, other], [0, one, other]] {
+                let counted = |state: State| state.counted(sent, expired, displaced);
+                states.extend([state, unadmitted].map(counted));
+            }
         }
     }
     states
@@ -129,7 +144,7 @@ fn counts_at_their_edges() {
     for index in 0..300 {
         for profile in PROFILES {
             let mut state = sound_state(&mut rng, profile);
-            state.queues[0] = Queue::default(); // room for an offer
+            state.queues[0] = Queue::default(); // room for an offer in either way
             for state in with_edge_counts(state) {
                 assert!(sound(&state), "{state:?}");
                 let (stamp, origin) = (state.stamp, format!("edge counts, state {index}"));

@@ -1,6 +1,6 @@
 //! The book checker rejects wrong gates, and its ceiling is every window's.
 
-use crate::help::{counts, since, Answer, Call};
+use crate::help::{counts, displaced, since, Answer, Call};
 use crate::runs::Caller;
 use reference::book::Book;
 use reference::gate;
@@ -244,6 +244,68 @@ fn the_book_counts_what_it_writes_and_strikes() {
     }
 }
 
+/// Six of one priority: the sixth strikes the first, and each after it the one
+/// that is then on top; k is what stood above once that one was struck.
+#[test]
+fn the_book_strikes_the_top_of_five() {
+    let mut book = Book::new(3, 0);
+    for id in 1..=8u32 {
+        book.feed(&offer(id, 2, 9, 100, 0), &Answer::Taken).unwrap();
+        let struck = book.displaced().map(|entry| entry.packet.id);
+        assert_eq!(struck, id.checked_sub(5).filter(|id| *id > 0));
+    }
+    let column: Vec<(u32, u64)> = (book.columns()[2].iter())
+        .map(|entry| (entry.packet.id, entry.above))
+        .collect();
+    assert_eq!(column, [(4, 3), (5, 4), (6, 4), (7, 4), (8, 4)]);
+    assert_eq!(book.counts(), displaced(3, counts(8, 0, 0)));
+    assert_eq!(book.closest().fewest_offers, Some(5));
+    // The other columns have room of their own, and a refused offer strikes none.
+    let before = book.columns().clone();
+    book.feed(&offer(9, 2, 9, 100, 0), &Answer::Refused(8))
+        .unwrap();
+    assert_eq!((book.displaced(), book.columns()), (None, &before));
+    book.feed(&offer(9, 3, 9, 100, 0), &Answer::Taken).unwrap();
+    assert_eq!(book.displaced(), None);
+    assert_eq!(book.columns()[2], before[2]);
+}
+
+/// The expired are struck first; where that makes room nothing is displaced.
+#[test]
+fn the_book_strikes_the_expired_first() {
+    for (stamp, struck, counted) in [
+        (49, Some(1), displaced(1, counts(6, 0, 0))),
+        (50, None, counts(6, 0, 1)),
+    ] {
+        let mut book = Book::new(3, 0);
+        for (id, lifetime) in [(1, 100), (2, 100), (3, 50), (4, 100), (5, 100)] {
+            book.feed(&offer(id, 0, 9, lifetime, 0), &Answer::Taken)
+                .unwrap();
+        }
+        book.feed(&offer(6, 0, 9, 100, stamp), &Answer::Taken)
+            .unwrap();
+        assert_eq!(book.displaced().map(|entry| entry.packet.id), struck);
+        assert_eq!(book.counts(), counted);
+    }
+}
+
+/// A gate that sends what was displaced, or keeps what it should have dropped.
+#[test]
+fn a_displaced_packet_is_not_sent() {
+    let mut fed: Vec<(Call, Answer)> = (1..=6)
+        .map(|id| (offer(id, 1, 9, 100, 0), Answer::Taken))
+        .collect();
+    let poll = Call::Poll { stamp: 0 };
+    let six = book(&fed);
+    let first = Answer::Sent(packet(1, 1, 9, 100, 0));
+    rejects(&six, poll.clone(), first, "struck");
+    accepts(&six, poll.clone(), Answer::Sent(packet(2, 1, 9, 100, 0)));
+    fed[5].1 = Answer::Refused(8);
+    let five = book(&fed);
+    accepts(&five, poll.clone(), first);
+    rejects(&five, poll, Answer::Sent(packet(2, 1, 9, 100, 0)), "struck");
+}
+
 #[test]
 fn a_states_counts_are_held_to_the_books() {
     let mut book = book(&[
@@ -263,9 +325,11 @@ fn a_states_counts_are_held_to_the_books() {
         (counts(2, 2, 1), "2 sent, the book 1"),
         (counts(2, 1, 0), "0 expired, the book 1"),
         (counts(2, 1, 2), "2 expired, the book 1"),
+        (displaced(1, counts(2, 1, 1)), "1 displaced, the book 0"),
         // These add up, or do so modulo 2^64, and are wrong all the same.
         (counts(2, 2, 0), "2 sent, the book 1"),
         (counts(2, 0, 2), "0 sent, the book 1"),
+        (displaced(1, counts(2, 1, 0)), "0 expired, the book 1"),
         (counts(3, 2, 1), "3 accepted, the book 2"),
         (counts(2, u64::MAX, 3), "sent, the book 1"),
     ];
@@ -343,7 +407,7 @@ fn wrong_answers(rng: &mut Rng, right: &Answer, state: &State) -> Vec<Answer> {
 #[test]
 fn changed_answers_in_random_runs_are_rejected() {
     for profile in [1, 2, 3] {
-        let (mut state, _) = gate::make(profile, 0);
+        let (mut state, _) = gate::make(profile, 0, 0);
         let mut book = Book::new(profile, 0);
         let mut caller = Caller::new(profile, 40);
         let mut rng = Rng::new(41);
@@ -366,7 +430,18 @@ fn changed_answers_in_random_runs_are_rejected() {
 /// What a gate that counts wrongly adds at a call, given what is right.
 type Slip = fn(&Call, &Answer, Counts) -> Counts;
 
-const SLIPS: [(&str, Slip); 7] = [
+const SLIPS: [(&str, Slip); 10] = [
+    ("a displaced packet is not counted", |_, _, right| {
+        displaced(0, right)
+    }),
+    ("a displaced packet counts as expired", |_, _, right| {
+        let expired = right.expired + right.displaced;
+        displaced(0, Counts { expired, ..right })
+    }),
+    ("an offer that displaces is not counted", |_, _, right| {
+        let accepted = right.accepted - right.displaced;
+        Counts { accepted, ..right }
+    }),
     ("a refused offer is counted", |call, answer, right| {
         let refused = matches!(answer, Answer::Refused(_));
         let offered = matches!(call, Call::Offer { .. });
@@ -414,7 +489,7 @@ const SLIPS: [(&str, Slip); 7] = [
 #[test]
 fn gates_that_count_wrongly_are_rejected() {
     for (slip, added) in SLIPS {
-        let (mut state, _) = gate::make(1, 0);
+        let (mut state, _) = gate::make(1, 0, 0);
         let mut book = Book::new(1, 0);
         let mut caller = Caller::new(1, 60);
         let mut wrong = Counts::default();
@@ -427,6 +502,7 @@ fn gates_that_count_wrongly_are_rejected() {
             wrong.accepted += more.accepted;
             wrong.sent += more.sent;
             wrong.expired += more.expired;
+            wrong.displaced += more.displaced;
             caller.heard(&answer);
             state = next;
             book.compare(&wrong).is_err()
@@ -439,7 +515,7 @@ fn gates_that_count_wrongly_are_rejected() {
 fn gates_without_a_wait_or_that_never_open_are_rejected() {
     for profile in [1, 3] {
         for silent in [false, true] {
-            let (mut state, _) = gate::make(profile, 0);
+            let (mut state, _) = gate::make(profile, 0, 0);
             let mut book = Book::new(profile, 0);
             let mut caller = Caller::new(profile, 50);
             let rejected = (0..20_000).any(|_| {

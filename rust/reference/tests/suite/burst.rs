@@ -1,6 +1,6 @@
 //! W-204: a burst is the single offers in their order.
 
-use crate::help::{fresh, late, Answer, Call, ACCEPTED_MOST, PROFILES};
+use crate::help::{fresh, late, old, Answer, Call, ACCEPTED_MOST, PROFILES, WAYS};
 use crate::runs::Caller;
 use reference::book::Book;
 use reference::burst::burst;
@@ -81,6 +81,7 @@ fn states() -> Vec<State> {
         let state = late(profile, [5, 4, 3, 0]);
         states.push(fresh(profile));
         states.push(state);
+        states.push(old(state));
         states.push(state.with_accepted(ACCEPTED_MOST));
         states.push(State { level: 9, ..state });
     }
@@ -108,8 +109,13 @@ fn each_record_meets_the_state_before_it() {
     records.push(offer(6, 0)); // five wait by now
     records.push(offer(7, 1_000_000)); // and have expired
     records.push(offer(8, 999_999)); // the clock goes back
-    let answers = holds(fresh(2), &records, 0);
+    let answers = holds(old(fresh(2)), &records, 0);
     assert_eq!(answers, [0, 0, 0, 0, 0, 8, 0, 2]);
+    // W-205: the burst follows the state that it is given.
+    let answers = holds(fresh(2), &records, 0);
+    assert_eq!(answers, [0, 0, 0, 0, 0, 0, 0, 2]);
+    let (state, _) = singly(fresh(2), &records[..6]);
+    assert_eq!((state.counts.accepted, state.counts.displaced), (6, 1));
 }
 
 #[test]
@@ -215,6 +221,8 @@ fn random_bursts_are_the_single_calls() {
             3 => rng.pick(&states()),
             _ => late(profile, [1, 2, 3, 4]).with_accepted(ACCEPTED_MOST - 5),
         };
+        let oldway = rng.pick(&WAYS);
+        let state = State { oldway, ..state };
         let many = if round <= 300 { round } else { rng.below(40) };
         let mut stamp = state.stamp;
         let records: Vec<Record> = (0..many)
@@ -240,6 +248,7 @@ fn runs_with_bursts_keep_the_claim() {
         let seed = 240 + u64::from(profile);
         let (mut rng, mut caller) = (Rng::new(seed), Caller::new(profile, seed));
         let (mut state, mut book) = (fresh(profile), Book::new(profile, 0));
+        state.oldway = u32::from(profile == 2);
         for _ in 0..4_000 {
             let call = caller.call(state.stamp);
             let (next, answer) = gate::call(state, &call);

@@ -1,8 +1,8 @@
-//! W-201: what each call counts, and the end of the offers at 10^15.
+//! W-201 and W-205: what each call counts, and the end of the offers at 10^15.
 
 use crate::help::{
-    assert_refused, counts, fresh, late, offered, sampled, sent, since, words, Answer,
-    ACCEPTED_MOST, PROFILES,
+    assert_refused, counts, displaced, fresh, late, offered, old, sampled, sent, since, words,
+    Answer, ACCEPTED_MOST, PROFILES, WAYS,
 };
 use crate::runs::Caller;
 use reference::book::Book;
@@ -16,8 +16,10 @@ const BACK: u32 = 2_147_483_648;
 #[test]
 fn a_fresh_state_and_the_not_live_one_have_counted_nothing() {
     for profile in 0..=4 {
-        let (state, _) = gate::make(profile, 7);
-        assert_eq!(state.counts, counts(0, 0, 0));
+        for oldway in WAYS {
+            let (state, _) = gate::make(profile, oldway, 7);
+            assert_eq!(state.counts, counts(0, 0, 0));
+        }
     }
 }
 
@@ -69,17 +71,12 @@ fn an_expiry_counts_at_its_removal() {
             let (next, _) = gate::poll(next, stamp);
             assert_eq!(next.counts, counts(20, 1, 12));
         }
-        // One µs before, nothing has expired.
-        assert_eq!(offered_full(state, 99), counts(20, 0, 0));
+        // One µs before, nothing has expired: the offer finds its queue full.
+        let next = offered(state, 6, 1, 9, 99);
+        assert_eq!(next.counts, displaced(1, counts(21, 0, 0)));
+        assert_refused(old(state), gate::offer(old(state), 6, 1, 1, 9, 99), 8);
         assert_eq!(gate::poll(state, 99).0.counts, counts(20, 1, 0));
     }
-}
-
-/// The counts after an offer that finds its queue full.
-fn offered_full(state: State, stamp: u32) -> Counts {
-    let result = gate::offer(state, 6, 1, 1, 9, stamp);
-    assert_refused(state, result, 8);
-    result.0.counts
 }
 
 #[test]
@@ -97,7 +94,7 @@ fn idle_and_closed_polls_count_the_expired() {
 #[test]
 fn a_refused_call_counts_nothing() {
     for profile in PROFILES {
-        let full = late(profile, [5, 5, 5, 5]);
+        let full = old(late(profile, [5, 5, 5, 5]));
         let stamp = full.stamp;
         let back = stamp.wrapping_add(BACK);
         let refused = [
@@ -127,10 +124,10 @@ fn the_last_offer_is_taken_and_the_next_is_refused_with_11() {
                 assert_eq!(answer, Answer::Taken);
                 assert_eq!(spent.counts.accepted, ACCEPTED_MOST);
                 assert!(sound(&spent));
-                for other in (0..4).filter(|&other| spent.queues[other].len < 5) {
+                for other in 0..4 {
                     for step in [0, 500, 1_000] {
                         let stamp = spent.stamp + step;
-                        let again = gate::offer(spent, 1, other as u32, 1, 1, stamp);
+                        let again = gate::offer(spent, 1, other, 1, 1, stamp);
                         assert_refused(spent, again, 11);
                     }
                 }
@@ -142,7 +139,7 @@ fn the_last_offer_is_taken_and_the_next_is_refused_with_11() {
 #[test]
 fn number_11_comes_after_all_others() {
     for profile in PROFILES {
-        let mut state = late(profile, [0, 5, 0, 0]).with_accepted(ACCEPTED_MOST);
+        let mut state = old(late(profile, [0, 5, 0, 0]).with_accepted(ACCEPTED_MOST));
         let stamp = state.stamp;
         assert_refused(state, gate::offer(state, 1, 0, 1, 1, stamp), 11);
         assert_refused(state, gate::offer(state, 1, 1, 1, 1, stamp), 8);
@@ -160,7 +157,8 @@ fn number_11_comes_after_all_others() {
 }
 
 /// 8 counts the unexpired at the new time; where it does not hold 11 does, and
-/// the expired stay where they are.
+/// the expired stay where they are. In the new way 11 comes before anything is
+/// displaced.
 #[test]
 fn a_spent_state_with_a_full_queue_of_which_one_expires() {
     let waits = |lifetime| Packet {
@@ -174,9 +172,11 @@ fn a_spent_state_with_a_full_queue_of_which_one_expires() {
         let mut state = fresh(profile);
         state.queues[2] = Queue::of(&[100, 500, 500, 500, 500].map(waits));
         let state = state.with_accepted(ACCEPTED_MOST);
-        assert_refused(state, gate::offer(state, 6, 2, 1, 1, 99), 8);
-        assert_refused(state, gate::offer(state, 6, 2, 1, 1, 100), 11);
-        assert_refused(state, gate::offer(state, 6, 2, 1, 1, 9_999), 11);
+        for (state, full) in [(state, 11), (old(state), 8)] {
+            assert_refused(state, gate::offer(state, 6, 2, 1, 1, 99), full);
+            assert_refused(state, gate::offer(state, 6, 2, 1, 1, 100), 11);
+            assert_refused(state, gate::offer(state, 6, 2, 1, 1, 9_999), 11);
+        }
     }
 }
 
@@ -200,14 +200,29 @@ fn a_spent_state_samples_sends_and_expires() {
 #[test]
 fn sums_are_those_of_whole_numbers() {
     let most = u64::MAX;
-    assert!(counts_add_up(0, 0, 0, 0));
-    assert!(counts_add_up(6, 1, 2, 3));
-    assert!(counts_add_up(most, most, 0, 0));
-    assert!(counts_add_up(most, 0, most - 20, 20));
-    assert!(!counts_add_up(0, most, 1, 0));
-    assert!(!counts_add_up(0, 1 << 63, 1 << 63, 0));
-    assert!(!counts_add_up(18, most, most, 20));
-    assert!(!counts_add_up(most, most, most, 1));
+    assert!(counts_add_up(0, [0; 4]));
+    assert!(counts_add_up(10, [1, 2, 3, 4]));
+    assert!(counts_add_up(most, [most, 0, 0, 0]));
+    assert!(counts_add_up(most, [0, 7, most - 27, 20]));
+    assert!(!counts_add_up(0, [most, 1, 0, 0]));
+    assert!(!counts_add_up(0, [1 << 63, 0, 1 << 63, 0]));
+    assert!(!counts_add_up(18, [most, 0, most, 20]));
+    assert!(!counts_add_up(17, [most, most, most, 20]));
+    assert!(!counts_add_up(most, [0, most, most, 1]));
+}
+
+/// Each part of the sum is one part of it: left out, the sum is wrong.
+#[test]
+fn each_count_has_its_part() {
+    let counts = displaced(4, counts(9, 1, 2));
+    assert!(counts.add_up(2));
+    for waiting in [0, 1, 3] {
+        assert!(!counts.add_up(waiting));
+    }
+    assert!(!Counts { sent: 0, ..counts }.add_up(2));
+    let expired = 0;
+    assert!(!Counts { expired, ..counts }.add_up(2));
+    assert!(!displaced(0, counts).add_up(2));
 }
 
 /// Runs from states that are fresh but for their counts, with so many offers
@@ -217,8 +232,12 @@ fn sums_are_those_of_whole_numbers() {
 fn runs_that_spend_their_offers() {
     for profile in PROFILES {
         for (seed, left) in [(70, 0), (71, 1), (72, 40), (73, 1_000)] {
-            let start = fresh(profile).with_accepted(ACCEPTED_MOST - left);
-            let (mut state, mut rich) = (start, fresh(profile));
+            let fresh = State {
+                oldway: seed as u32 % 2,
+                ..fresh(profile)
+            };
+            let start = fresh.with_accepted(ACCEPTED_MOST - left);
+            let (mut state, mut rich) = (start, fresh);
             let (mut book, mut caller) = (Book::new(profile, 0), Caller::new(profile, seed));
             let mut spent = 0;
             for _ in 0..10_000 {
@@ -262,7 +281,8 @@ fn counts_change_no_answer() {
         for _ in 0..10_000 {
             let call = caller.call(state.stamp);
             let (next, answer) = gate::call(state, &call);
-            let other = state.counted(rng.below(ACCEPTED_MOST / 2), rng.below(1_000));
+            let (sent, expired) = (rng.below(ACCEPTED_MOST / 2), rng.below(1_000));
+            let other = state.counted(sent, expired, rng.below(ACCEPTED_MOST / 4));
             let (moved, same) = gate::call(other, &call);
             let place = format!("seed {seed}: {call:?} on {state:?}");
             assert_eq!(same, answer, "{place}");

@@ -9,32 +9,51 @@ pub use reference::gate::{Answer, Call};
 /// The three profiles.
 pub const PROFILES: [u32; 3] = [1, 2, 3];
 
+/// The two ways that a gate is made in: a full queue drops its oldest, or it
+/// refuses.
+pub const WAYS: [u32; 2] = [0, 1];
+
 /// The most offers that a state accepts.
 pub const ACCEPTED_MOST: u64 = 1_000_000_000_000_000;
 
-/// Counts, in their order.
+/// Counts, in their order, with nothing displaced.
 pub fn counts(accepted: u64, sent: u64, expired: u64) -> Counts {
     Counts {
         accepted,
         sent,
         expired,
+        displaced: 0,
+    }
+}
+
+/// Counts with so many displaced.
+pub fn displaced(displaced: u64, counts: Counts) -> Counts {
+    Counts {
+        displaced,
+        ..counts
     }
 }
 
 /// What was counted from one state's counts to another's.
 pub fn since(start: Counts, now: Counts) -> Counts {
-    counts(
-        now.accepted - start.accepted,
-        now.sent - start.sent,
-        now.expired - start.expired,
-    )
+    Counts {
+        accepted: now.accepted - start.accepted,
+        sent: now.sent - start.sent,
+        expired: now.expired - start.expired,
+        displaced: now.displaced - start.displaced,
+    }
 }
 
-/// A fresh state at stamp 0.
+/// A fresh state at stamp 0, made in the new way.
 pub fn fresh(profile: u32) -> State {
-    let (state, answer) = gate::make(profile, 0);
+    let (state, answer) = gate::make(profile, 0, 0);
     assert_eq!(answer, Answer::Ready);
     state
+}
+
+/// The state as if it had been made in the old way.
+pub fn old(state: State) -> State {
+    State { oldway: 1, ..state }
 }
 
 /// A packet of the longest on-time that the profile allows.
@@ -66,7 +85,7 @@ pub fn late(profile: u32, lengths: [usize; 4]) -> State {
             .collect();
         state.queues[priority] = Queue::of(&waiting);
     }
-    state.counted(700, 40)
+    state.counted(700, 40, 9)
 }
 
 /// Sixteen words with the first `busy` probes busy.

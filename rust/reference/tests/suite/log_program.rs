@@ -20,6 +20,14 @@ fn make(profile: u8, stamp: u32) -> Record {
     }
 }
 
+/// A make with a number in its lifetime field.
+fn make_way(profile: u8, lifetime: u32, stamp: u32) -> Record {
+    Record {
+        lifetime,
+        ..make(profile, stamp)
+    }
+}
+
 fn sample(busy: u32, stamp: u32) -> Record {
     Record {
         kind: 1,
@@ -215,6 +223,29 @@ fn a_make_starts_afresh_and_a_refused_one_leaves_nothing() {
     );
 }
 
+/// The lifetime field of a make: 0 and 1 are the ways, over its whole 32 bits.
+#[test]
+fn a_make_says_its_way() {
+    let six = |make: Record| {
+        let mut records = vec![make];
+        records.extend((1..=6).map(|id| offer(id, 3, 1, 9, 7)));
+        records.push(poll(7));
+        output(&bytes(&records))
+    };
+    let five = "READY\nTAKEN\nTAKEN\nTAKEN\nTAKEN\nTAKEN\n";
+    assert_eq!(six(make(1, 7)), format!("{five}TAKEN\nSENT 2\nEND\n"));
+    assert_eq!(six(make_way(1, 0, 7)), six(make(1, 7)));
+    let refused = format!("{five}REFUSED 8\nSENT 1\nEND\n");
+    assert_eq!(six(make_way(1, 1, 7)), refused);
+    let none = format!("REFUSED 1\n{}END\n", "REFUSED 9\n".repeat(7));
+    for other in [2, 9, 256, 65_536, 1 << 31, u32::MAX] {
+        assert_eq!(six(make_way(1, other, 7)), none, "{other}");
+        let (state, _) = step(State::default(), &make(2, 5));
+        let refused = (State::default(), Answer::Refused(1));
+        assert_eq!(step(state, &make_way(2, other, 5)), refused);
+    }
+}
+
 #[test]
 fn a_busy_count_is_judged_over_its_32_bits() {
     let log = bytes(&[
@@ -234,13 +265,21 @@ fn other_fields_are_ignored() {
         kind: 0,
         priority: 3,
         ontime: 9,
-        lifetime: 9,
+        lifetime: 0,
         id: 9,
         stamp: 4,
     };
     assert_eq!(
         step(State::default(), &full),
         step(State::default(), &make(3, 4))
+    );
+    let oldway = Record {
+        lifetime: 1,
+        ..full
+    };
+    assert_eq!(
+        step(State::default(), &oldway),
+        step(State::default(), &make_way(3, 1, 4))
     );
     let (state, _) = step(State::default(), &full);
     let noisy = Record {
@@ -312,7 +351,10 @@ fn any_bytes_give_one_line_a_record() {
         record.kind = rng.pick(&[0, 1, 1, 2, 2, 2, 3, 3, 3, 7]);
         record.priority = rng.below(5) as u8;
         record.ontime = rng.below(600) as u16;
-        record.lifetime = rng.below(1 << 27) as u32;
+        record.lifetime = match record.kind {
+            0 => rng.below(3) as u32,
+            _ => rng.below(1 << 27) as u32,
+        };
         record.id = rng.below(1_100) as u32;
         record.stamp = rng.below(1 << 22) as u32;
         log.extend(record.to_bytes());

@@ -6,6 +6,7 @@ mod burst;
 mod ccalls;
 mod clock;
 mod counts;
+mod displacement;
 mod help;
 mod log_program;
 mod queues;

@@ -1,6 +1,6 @@
 //! "Waiting and leaving": order, expiry, the wait.
 
-use crate::help::{assert_refused, fresh, late, offered, sampled, sent, Answer, PROFILES};
+use crate::help::{assert_refused, fresh, late, offered, old, sampled, sent, Answer, PROFILES};
 use reference::state::Packet;
 use reference::{gate, rules};
 
@@ -23,7 +23,7 @@ fn lowest_queue_first_oldest_first() {
 
 #[test]
 fn sent_carries_the_whole_packet() {
-    let (state, _) = gate::make(3, 100);
+    let (state, _) = gate::make(3, 0, 100);
     let (state, _) = gate::offer(state, 9, 2, 4_000, 50_000, 107);
     let (state, answer) = gate::poll(state, 120);
     let packet = Packet {
@@ -93,6 +93,7 @@ fn a_full_queue_counts_the_unexpired_at_the_new_time() {
         state = offered(state, id, 2, 1_000, 0);
     }
     state = offered(state, 9, 0, 40, 0);
+    let state = old(state);
     // At 99 five live ones wait; nothing is removed, not even the expired 9.
     assert_refused(state, gate::offer(state, 6, 2, 1, 1, 99), 8);
     let (next, answer) = gate::offer(state, 6, 2, 1, 1, 100);

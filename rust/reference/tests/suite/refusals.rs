@@ -1,6 +1,6 @@
 //! "Refusal numbers": each number at its boundary, and the order of checks.
 
-use crate::help::{assert_refused, fresh, late, Answer, PROFILES};
+use crate::help::{assert_refused, fresh, late, old, Answer, PROFILES, WAYS};
 use reference::gate;
 use reference::state::State;
 
@@ -9,12 +9,13 @@ const BACK: u32 = 2_147_483_648;
 #[test]
 fn make_takes_three_profiles() {
     for profile in PROFILES {
-        for stamp in [0, 1, u32::MAX] {
-            let (state, answer) = gate::make(profile, stamp);
+        for (oldway, stamp) in [(0, 0), (0, 1), (0, u32::MAX), (1, 0), (1, 7)] {
+            let (state, answer) = gate::make(profile, oldway, stamp);
             assert_eq!(answer, Answer::Ready);
             let expected = State {
                 live: true,
                 profile,
+                oldway,
                 stamp,
                 duty: 600_000,
                 ..State::default()
@@ -23,9 +24,23 @@ fn make_takes_three_profiles() {
         }
     }
     for profile in [0, 4, 5, 255, 256, u32::MAX] {
-        let none = State::default();
-        assert_refused(none, gate::make(profile, 7), 1);
-        assert!(!none.live);
+        for oldway in [0, 1, 2] {
+            let none = State::default();
+            assert_refused(none, gate::make(profile, oldway, 7), 1);
+            assert!(!none.live);
+        }
+    }
+}
+
+#[test]
+fn make_takes_a_yes_or_a_no() {
+    for profile in PROFILES {
+        for oldway in WAYS {
+            assert_eq!(gate::make(profile, oldway, 7).1, Answer::Ready);
+        }
+        for oldway in [2, 3, 256, 1 << 31, u32::MAX] {
+            assert_refused(State::default(), gate::make(profile, oldway, 7), 1);
+        }
     }
 }
 
@@ -99,7 +114,7 @@ fn number_8_queue_full() {
         for priority in 0..4 {
             let mut lengths = [0; 4];
             lengths[priority as usize] = 4;
-            let state = late(profile, lengths);
+            let state = old(late(profile, lengths));
             let (full, answer) = gate::offer(state, 1, priority, 1, 1_000, state.stamp);
             assert_eq!(answer, Answer::Taken);
             let again = gate::offer(full, 1, priority, 1, 1, full.stamp + 5);
@@ -145,7 +160,7 @@ fn order_9_then_2_then_3() {
 #[test]
 fn order_5_then_6_then_7_then_8() {
     for profile in PROFILES {
-        let state = late(profile, [5, 5, 5, 5]);
+        let state = old(late(profile, [5, 5, 5, 5]));
         let stamp = state.stamp;
         assert_refused(state, gate::offer(state, 1, 4, 0, 0, stamp), 5);
         assert_refused(state, gate::offer(state, 1, 3, 0, 0, stamp), 6);

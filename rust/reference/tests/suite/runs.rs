@@ -134,10 +134,11 @@ fn name(answer: &Answer) -> String {
     }
 }
 
-/// Runs so many calls; how often each answer came, and the book.
-fn run(profile: u32, seed: u64, calls: u32) -> (BTreeMap<String, u32>, Book) {
+/// Runs so many calls on a gate of the old way, or the new; how often each
+/// answer came, and the book.
+fn run(profile: u32, oldway: u32, seed: u64, calls: u32) -> (BTreeMap<String, u32>, Book) {
     let first = seed as u32 ^ 0xF000_0000;
-    let (mut state, _) = gate::make(profile, first);
+    let (mut state, _) = gate::make(profile, oldway, first);
     let mut book = Book::new(profile, first);
     let mut caller = Caller::new(profile, seed);
     let mut answers = BTreeMap::new();
@@ -157,17 +158,28 @@ fn run(profile: u32, seed: u64, calls: u32) -> (BTreeMap<String, u32>, Book) {
 }
 
 fn claim_holds(profile: u32) {
-    for seed in [1, 2] {
-        let (answers, book) = run(profile, seed, 100_000);
+    for (oldway, seed) in [(0, 1), (1, 2)] {
+        let (answers, book) = run(profile, oldway, seed, 100_000);
         for wanted in ["TAKEN", "SENT", "IDLE", "CLOSED"] {
             assert!(answers[wanted] > 1_000, "{wanted}: {answers:?}");
         }
-        for wanted in [2, 4, 5, 6, 7, 8] {
-            let times = answers.get(&format!("REFUSED {wanted}"));
+        let refused = |number: u32| answers.get(&format!("REFUSED {number}"));
+        for wanted in [2, 4, 5, 6, 7] {
+            let times = refused(wanted);
             assert!(
                 times.is_some_and(|&times| times > 10),
                 "{wanted}: {answers:?}"
             );
+        }
+        if oldway == 1 {
+            // A gate of the old way refuses, and displaces nothing.
+            assert!(refused(8).is_some_and(|&times| times > 10), "{answers:?}");
+            assert_eq!(book.counts().displaced, 0);
+            assert_eq!(book.closest().fewest_offers, None);
+        } else {
+            assert_eq!(refused(8), None);
+            assert!(book.counts().displaced > 10, "{:?}", book.counts());
+            assert_eq!(book.closest().fewest_offers, Some(5));
         }
         assert!(book.counts().expired > 1_000);
         assert!(book.closest().most_seen >= 3);
@@ -178,7 +190,7 @@ fn claim_holds(profile: u32) {
 #[test]
 fn the_claim_holds_in_profile_1() {
     claim_holds(1);
-    let (_, book) = run(1, 3, 50_000);
+    let (_, book) = run(1, 0, 3, 50_000);
     // The shortest wait, after the shortest on-time.
     assert_eq!(book.closest().shortest_gap, Some(100_001));
     assert_eq!(book.closest().smallest_slack, Some(300_000));
@@ -187,7 +199,7 @@ fn the_claim_holds_in_profile_1() {
 #[test]
 fn the_claim_holds_in_profile_2() {
     claim_holds(2);
-    let (_, book) = run(2, 3, 50_000);
+    let (_, book) = run(2, 0, 3, 50_000);
     assert_eq!(book.closest().shortest_gap, Some(50_001));
     assert_eq!(book.closest().smallest_slack, Some(350_000));
 }
@@ -195,7 +207,7 @@ fn the_claim_holds_in_profile_2() {
 #[test]
 fn the_claim_holds_in_profile_3() {
     claim_holds(3);
-    let (_, book) = run(3, 3, 50_000);
+    let (_, book) = run(3, 0, 3, 50_000);
     assert_eq!(book.closest().shortest_gap, Some(25_000));
     // One packet of 4,000 µs alone takes the whole 400,000.
     assert_eq!(book.closest().smallest_slack, Some(0));
@@ -212,7 +224,7 @@ fn told((state, book): &mut (State, Book), call: Call) -> Answer {
 /// A run that reaches the floor: four loud samples ask for the longest wait of
 /// profiles 1 and 2, a fresh duty for profile 3's, and this on-time goes first.
 fn reaches_the_floor(profile: u32, ontime: u32, floor: u32) {
-    let mut run = (gate::make(profile, 0).0, Book::new(profile, 0));
+    let mut run = (gate::make(profile, 0, 0).0, Book::new(profile, 0));
     if profile != 3 {
         for _ in 0..4 {
             let (busy, stamp) = (1_000, 0);
@@ -263,7 +275,7 @@ fn a_run_of_profile_3_reaches_the_floor() {
 
 #[test]
 fn the_ceiling_is_kept_at_the_greatest_duty_and_load() {
-    let mut run = (gate::make(3, 0).0, Book::new(3, 0));
+    let mut run = (gate::make(3, 0, 0).0, Book::new(3, 0));
     run.0.duty = 30_000_000;
     let mut stamp = 0u32;
     for turn in 0..20_000 {

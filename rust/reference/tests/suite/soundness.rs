@@ -1,6 +1,6 @@
 //! "A state is sound if": each rule broken alone, and odd states that are sound.
 
-use crate::help::{assert_refused, fresh, late, Answer, ACCEPTED_MOST, PROFILES};
+use crate::help::{assert_refused, fresh, late, old, Answer, ACCEPTED_MOST, PROFILES};
 use reference::gate;
 use reference::miscounts::{one_off, wrapping};
 use reference::rng::Rng;
@@ -21,8 +21,9 @@ fn starts() -> Vec<State> {
     let mut starts = Vec::new();
     for profile in PROFILES {
         starts.push(fresh(profile));
-        for lengths in LENGTHS {
-            starts.push(late(profile, lengths));
+        for (lengths, oldway) in LENGTHS.into_iter().zip([0, 1].into_iter().cycle()) {
+            let state = late(profile, lengths);
+            starts.push(State { oldway, ..state });
         }
     }
     starts
@@ -254,6 +255,13 @@ fn admission_fields_before_the_first() {
     }
 }
 
+/// The state with as many sent, expired and displaced as another has, and
+/// accepted to suit.
+fn recounted(state: State, other: &State) -> State {
+    let counts = other.counts;
+    state.counted(counts.sent, counts.expired, counts.displaced)
+}
+
 #[test]
 fn queue_length_above_5() {
     for start in starts() {
@@ -262,7 +270,7 @@ fn queue_length_above_5() {
                 let mut state = start;
                 state.queues[q].len = len;
                 // Counts that add up without that queue, of which nothing is read.
-                let read = state.counted(start.counts.sent, start.counts.expired);
+                let read = recounted(state, &start);
                 breaks_only(&read, "queue length at most 5");
                 // And such as would add up if so many packets were there.
                 let more = len - start.queues[q].len;
@@ -282,7 +290,7 @@ fn queue_length_that_is_not_the_packets() {
                 let mut state = start;
                 state.queues[q].len = len;
                 all_calls_refuse(&state);
-                let state = state.counted(start.counts.sent, start.counts.expired);
+                let state = recounted(state, &start);
                 all_calls_refuse(&state);
                 if len < length {
                     breaks_only(&state, "slots past the length zero");
@@ -391,8 +399,9 @@ fn counts_that_add_up_only_by_wrapping() {
     for start in starts() {
         let waiting = start.waiting() as u64;
         for counts in wrapping(&start, &mut rng) {
-            let sum = counts.sent.wrapping_add(counts.expired);
-            assert_eq!(counts.accepted, sum.wrapping_add(waiting), "seed 201");
+            let parts = [counts.sent, counts.expired, counts.displaced];
+            let sum = parts.into_iter().fold(waiting, u64::wrapping_add);
+            assert_eq!(counts.accepted, sum, "seed 201");
             breaks_only(&State { counts, ..start }, "counts add up");
         }
     }
@@ -422,10 +431,26 @@ fn any_counts_that_add_up_are_sound() {
         for _ in 0..100 {
             let gone = rng.below(most + 1);
             let sent = rng.below(gone + 1);
-            is_sound(&start.counted(sent, gone - sent));
+            let expired = rng.below(gone - sent + 1);
+            is_sound(&start.counted(sent, expired, gone - sent - expired));
         }
-        for (sent, expired) in [(0, 0), (0, 1), (1, 0), (most, 0), (0, most)] {
-            is_sound(&start.counted(sent, expired));
+        is_sound(&start.counted(0, 0, 0));
+        for many in [1, most] {
+            is_sound(&start.counted(many, 0, 0));
+            is_sound(&start.counted(0, many, 0));
+            is_sound(&start.counted(0, 0, many));
+        }
+    }
+}
+
+#[test]
+fn old_way() {
+    for start in starts() {
+        for oldway in [0, 1] {
+            is_sound(&State { oldway, ..start });
+        }
+        for oldway in [2, 3, 256, 1 << 31, u32::MAX] {
+            breaks_only(&State { oldway, ..start }, "old way 0 or 1");
         }
     }
 }
@@ -445,8 +470,10 @@ fn odd_but_sound() {
     }
     for profile in PROFILES {
         // Packets were sent, and nothing was admitted; or the other way round.
-        is_sound(&fresh(profile).counted(1, 0));
-        is_sound(&late(profile, [0; 4]).counted(0, 0));
+        is_sound(&fresh(profile).counted(1, 0, 0));
+        is_sound(&late(profile, [0; 4]).counted(0, 0, 0));
+        // A gate of the old way displaces nothing, and may say that it has.
+        is_sound(&old(fresh(profile)).counted(0, 0, 7));
         // Expired packets still wait, as a sample leaves them.
         let mut state = late(profile, [5, 5, 5, 5]);
         state.time += 60_000_000;
@@ -470,6 +497,7 @@ fn odd_but_sound() {
 #[test]
 fn several_rules_at_once_are_all_named() {
     let mut state = State {
+        oldway: 9,
         level: 9,
         smoothed: u32::MAX,
         kept: u32::MAX,
