@@ -34,7 +34,7 @@ ofKind kind = record { kind = kind; priority = 2; ontime = 400; lifetime = 1000;
 
 kinds :
     map (λ (kind : ℕ). askedBy (ofKind kind)) (0 ∷ 1 ∷ 2 ∷ 3 ∷ 4 ∷ 255 ∷ [])
-    ≡ makes (record { profile = 2; stamp = 9 })
+    ≡ makes (record { profile = 2; oldway = 1000; stamp = 9 })
     ∷ calls (count 9 65541)
     ∷ calls (offer 9 (record { id = 65541; priority = 2; ontime = 400; lifetime = 1000 }))
     ∷ calls (poll 9)
