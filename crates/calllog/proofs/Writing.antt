@@ -84,7 +84,7 @@ numbered (calls (poll stamp)) = tt
 numbered unknown = (omega arith, tt)
 
 -- no refusal in the end is none of the call's own
-passed : (refusal number place : ℕ) → number ≡ cond (eqb refusal 0) place refusal → number ≡ 0 → refusal ≡ 0
+pub passed : (refusal number place : ℕ) → number ≡ cond (eqb refusal 0) place refusal → number ≡ 0 → refusal ≡ 0
 passed refusal number place n z =
     split (eqb refusal 0) (eqb-true refusal 0)
     (λ f. sym (n ∙ ap (λ (u : Bool). cond u place refusal) f) ∙ z)
