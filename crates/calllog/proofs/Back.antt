@@ -1,206 +1,28 @@
--- There and back: 16 bytes at a place are read as the record that was written there, and a call's record asks that call; so a
--- record goes back to its own bytes if its call's record is itself, which it is exactly if it is plain.
-use Prim.Native.Nat.{ℕ, zero, suc, _+_, _*_, _/_, _%_, _≤_, _<_}
+-- There and back: a record goes back to its own bytes if the record of what it asks is itself, which it is exactly if it is
+-- plain; and the record of a call that is not refused is plain.
+use Prim.Native.Nat.{ℕ, zero, suc, _+_, _*_, _%_, _≤_, _<_}
 use mathlib.Core.Path.{_≡_, refl, sym, ap, ap₂, _∙_, subst, subst⁻¹}
-use mathlib.Core.Bool.{Bool, true, false, cond, not}
-use mathlib.Core.List.{List, [], _∷_, _++_}
+use mathlib.Core.Bool.{true, false, cond}
+use mathlib.Core.List.{List, [], _∷_}
 use native.Mathlib.Nat.{add-assoc, add-zero, add-suc, zero-add, add-mul-mod-self-left, mod-eq-of-lt}
 use native.Mathlib.Nat.{add-mul-div-left, div-eq-of-lt}
 use native.Mathlib.Omega.{arith}
-use borrow.Author.Tests.{lt-leb, le-ltb, eqb-true, eqb-false, eq-eqb, leb-false, ltb-false, not-false}
+use borrow.Author.Tests.{lt-leb, le-ltb, ltb-false, eqb-true, eqb-false}
 use lib.Dec.{eqb}
-use lib.ListN.{length, getD, take, drop, length-append, length-drop, List·getD-append}
-use lib.Seq.{length-take-le, drop-cons, getD-append-add, getD-take, getD-drop}
-use Rattle.rules.specs.Refusals.{Check, check, firstOf, NoneHolds}
-use Rattle.rules.specs.Samples.{probes, busyOf, goodWords, sampleOf}
-use Rattle.rules.specs.declared.Sample.the-variants.{Busy}
+use lib.ListN.{length, take, drop, length-drop}
+use lib.Seq.{length-take-le, drop-cons, getD-take, getD-drop}
+use Rattle.rules.specs.Refusals.{firstOf, NoneHolds}
 use Rattle.rules.proofs.Cases.{split, clash}
-use Rattle.rules.proofs.Probes.{busy-le}
-use Rattle.rules.proofs.Refusals.{Numbered, exact, none-of, of-none, first-append}
-use Rattle.model.specs.Calls.{Call, words, count, offer, poll}
-use Rattle.gate.specs.declared.State.{State}
-use Rattle.gate.specs.declared.Outcome.{Outcome}
-use Rattle.gate.specs.Layout.{callOn}
-use Rattle.gate.specs.Runs.{stateAfter, eventsOn}
-use Rattle.gate.proofs.Sampling.{words-busy}
+use Rattle.model.specs.Calls.{words, count, offer, poll}
 use Rattle.calllog.specs.declared.Record.{Record}
 use Rattle.calllog.specs.Records.{recordBytes, byteAt, twoAt, fourAt, recordAt, Asked, makes, calls, unknown, askedBy}
-use Rattle.calllog.specs.Steps.{answered, stepOn}
 use Rattle.calllog.specs.Buffers.{written}
-use Rattle.calllog.specs.Writing.{littleEndian, bytesOf, recordOf, argumentChecks, placeChecks, writeChecks}
-use Rattle.calllog.specs.Writing.{writeNumber, unlessRefused, logAfter, WritesExactly, Narrow, counted, ReadsBack, PlaysBack}
+use Rattle.calllog.specs.Writing.{littleEndian, bytesOf, recordOf, argumentChecks, placeChecks, writeNumber, logAfter, Narrow}
 use Rattle.calllog.specs.Writing.{Plain, Bytes, sixteenAt, WritesBack, ThereAndBack, BackExactly}
-use Rattle.calllog.specs.Writing.{sampleRecord, ShareRecord, answersOn, SameAfter, CountAnswersAlike, AlikeAnswerAlike}
 use Rattle.calllog.proofs.Asking.{asks-nothing}
 use Rattle.calllog.proofs.Pieces.{same-record}
-use Rattle.calllog.proofs.Writing.{numbered, place-passed, passed, room}
-
--- a record whose numbers fit its fields
-pub record Fitting (rec : Record) : Type 0 where
-  pub kind : rec .kind < 256
-  pub priority : rec .priority < 256
-  pub ontime : rec .ontime < 65536
-  pub lifetime : rec .lifetime < 4294967296
-  pub id : rec .id < 4294967296
-  pub stamp : rec .stamp < 4294967296
-
-length-record : (rec : Record) → length (bytesOf rec) ≡ 16
-unfolding bytesOf littleEndian
-length-record rec = refl
-
--- its bytes are read as itself
-read-bytes : (rec : Record) → Fitting rec → recordAt (bytesOf rec) 0 ≡ rec
-unfolding recordAt twoAt fourAt bytesOf littleEndian
-read-bytes rec f =
-    let two : (n : ℕ) → n < 65536 → n % 256 + 256 * (n / 256 % 256) ≡ n = λ n h. omega arith in
-    let four : (n : ℕ) → n < 4294967296
-    → n % 256 + 256 * (n / 256 % 256) + 65536 * (n / 256 / 256 % 256) + 16777216 * (n / 256 / 256 / 256 % 256) ≡ n =
-    λ n h. omega arith in
-    let kind : rec .kind % 256 ≡ rec .kind = omega arith in
-    let priority : rec .priority % 256 ≡ rec .priority = omega arith in
-    simp (
-      four (rec .lifetime) (f .lifetime),
-      four (rec .id) (f .id),
-      four (rec .stamp) (f .stamp),
-      two (rec .ontime) (f .ontime),
-      kind,
-      priority,
-    )
-
--- what is read at a place is what was written there
-module _ (log : List ℕ) (at : ℕ) (text : List ℕ) (h : at + recordBytes ≤ length log) (e : length text ≡ recordBytes) where
-  byte-written : (k : ℕ) → k < recordBytes → byteAt (written log at text) (at + k) ≡ byteAt text k
-  byte-written k l =
-      let front : length (take at log) ≡ at = length-take-le at log (omega arith) in
-      let both : at + k < length (take at log ++ text) = omega (arith, length-append (take at log) text) in
-      List·getD-append (take at log ++ text) (drop (at + length text) log) 0 (at + k) both
-      ∙ ap (λ (n : ℕ). getD (take at log ++ text) (n + k) 0) (sym front)
-      ∙ getD-append-add (take at log) text k 0
-
-  read-written : recordAt (written log at text) at ≡ recordAt text 0
-  read-written =
-      same-record (written log at text) text at 0
-      (λ k l. byte-written k l ∙ ap (byteAt text) (sym (zero-add k)))
-
-record-written :
-    (log : List ℕ) (at : ℕ) (rec : Record) → at + recordBytes ≤ length log → Fitting rec
-    → recordAt (written log at (bytesOf rec)) at ≡ rec
-record-written log at rec h f = read-written log at (bytesOf rec) h (length-record rec) ∙ read-bytes rec f
-
--- a write that is not refused: no row of its arguments holds, the place has room, and the record is put
-table : (log : List ℕ) (at : ℕ) (a : Asked)
-    → writeNumber log at a
-    ≡ cond (eqb (firstOf (argumentChecks a)) 0) (firstOf (placeChecks (length log) at)) (firstOf (argumentChecks a))
-unfolding writeNumber
-table log at a = first-append (argumentChecks a) (placeChecks (length log) at) (numbered a)
-
-module _ (log : List ℕ) (at : ℕ) (a : Asked) (z : writeNumber log at a ≡ 0) where
-  none-held : NoneHolds (argumentChecks a)
-  none-held =
-      of-none (argumentChecks a) (numbered a)
-      (passed (firstOf (argumentChecks a)) (writeNumber log at a) (firstOf (placeChecks (length log) at)) (table log at a) z)
-
-  has-room : at + recordBytes ≤ length log
-  has-room = room (length log) at (firstOf (argumentChecks a)) (writeNumber log at a) (table log at a) z
-
-  put : logAfter log at a ≡ written log at (bytesOf (recordOf a))
-  unfolding logAfter
-  put = ap (λ (u : Bool). cond u (written log at (bytesOf (recordOf a))) log) (eq-eqb (writeNumber log at a) 0 z)
-
--- then its numbers fit
-fits : (a : Asked) → Narrow a → NoneHolds (argumentChecks a) → Fitting (recordOf a)
-unfolding argumentChecks recordOf
-fits (makes m) n h =
-    record {
-      kind = omega arith;
-      priority = omega (arith, leb-false 256 (m .profile) (h .0));
-      ontime = omega arith;
-      lifetime = omega (arith, ltb-false 1 (m .oldway) (h .1 .0));
-      id = omega arith;
-      stamp = omega arith;
-    }
-fits (calls (words stamp ws)) n h =
-    record {
-      kind = omega arith;
-      priority = omega arith;
-      ontime = omega arith;
-      lifetime = omega arith;
-      id = omega (arith, busy-le ws probes);
-      stamp = omega (arith, n .0);
-    }
-fits (calls (count stamp busy)) n h =
-    record {
-      kind = omega arith;
-      priority = omega arith;
-      ontime = omega arith;
-      lifetime = omega arith;
-      id = omega (arith, leb-false 4294967296 busy (h .0));
-      stamp = omega (arith, n .0);
-    }
-fits (calls (offer stamp o)) n h =
-    record {
-      kind = omega arith;
-      priority = omega (arith, leb-false 256 (o .priority) (h .0));
-      ontime = omega (arith, leb-false 65536 (o .ontime) (h .1 .0));
-      lifetime = omega (arith, leb-false 4294967296 (o .lifetime) (h .1 .1 .0));
-      id = omega (arith, n .1);
-      stamp = omega (arith, n .0);
-    }
-fits (calls (poll stamp)) n h =
-    record {
-      kind = omega arith;
-      priority = omega arith;
-      ontime = omega arith;
-      lifetime = omega arith;
-      id = omega arith;
-      stamp = omega (arith, n .0);
-    }
-fits unknown n h = clash (let e : true ≡ false = h .0 in cc)
-
--- a call's record asks it
-asks : (a : Asked) → askedBy (recordOf a) ≡ counted a
-unfolding askedBy recordOf
-asks (makes m) = refl
-asks (calls (words stamp ws)) = refl
-asks (calls (count stamp busy)) = refl
-asks (calls (offer stamp o)) = refl
-asks (calls (poll stamp)) = refl
-asks unknown = refl
-
-pub reads-back : ReadsBack
-reads-back log at a n z =
-    ap (λ (l : List ℕ). askedBy (recordAt l at)) (put log at a z)
-    ∙ ap askedBy (record-written log at (recordOf a) (has-room log at a z) (fits a n (none-held log at a z)))
-    ∙ asks a
-
--- a good sample by words is answered as the one by its count
-pub count-for-words :
-    (s : State) (stamp : ℕ) (ws : List ℕ) → goodWords ws ≡ true
-    → callOn s (count stamp (busyOf ws probes)) ≡ callOn s (words stamp ws)
-unfolding sampleOf
-count-for-words s stamp ws g = words-busy s stamp ws (busyOf ws probes) (rw g)
-
-same-answer : (s : State) (a : Asked) → NoneHolds (argumentChecks a) → answered s (counted a) ≡ answered s a
-unfolding argumentChecks
-same-answer s (makes m) h = refl
-same-answer s (calls (words stamp ws)) h = count-for-words s stamp ws (not-false _ (h .0))
-same-answer s (calls (count stamp busy)) h = refl
-same-answer s (calls (offer stamp o)) h = refl
-same-answer s (calls (poll stamp)) h = refl
-same-answer s unknown h = refl
-
-pub plays-back : PlaysBack
-unfolding stepOn
-plays-back s log at a n z = ap (answered s) (reads-back log at a n z) ∙ same-answer s a (none-held log at a z)
-
-numbered-append : (xs ys : List Check) → Numbered xs → Numbered ys → Numbered (xs ++ ys)
-numbered-append [] ys m n = n
-numbered-append (x ∷ xs) ys m n = (m .0, numbered-append xs ys (m .1) n)
-
-pub writes-exactly : WritesExactly
-writes-exactly log at a =
-    exact (writeChecks log at a)
-    (numbered-append (argumentChecks a) (placeChecks (length log) at) (numbered a) (omega arith, tt))
+use Rattle.calllog.proofs.Writing.{place-passed}
+use Rattle.calllog.proofs.Reading.{Fitting, read-written, record-written, table, none-held, has-room, put, fits}
 
 -- the bytes of a log from a place on, one by one
 row : List ℕ → (at k n : ℕ) → List ℕ
@@ -409,37 +231,3 @@ module _ (log : List ℕ) (at : ℕ) (bytes : Bytes log) (h : at + recordBytes �
 
 pub back-exactly : BackExactly
 back-exactly log at bytes h = record { back = goes-back log at bytes h; only = only-plain log at bytes h }
-
--- two good samples by words with one count
-pub share-record : ShareRecord
-unfolding recordOf writeNumber argumentChecks logAfter
-share-record log at stamp ws ws′ same =
-    let one : goodWords ws ≡ goodWords ws′ = same .good ∙ sym (same .good′) in
-    let fields = ap (sampleRecord stamp) (same .busy) in
-    let answer =
-    ap (λ (g : Bool). firstOf (check 4 (not g) ∷ placeChecks (length log) at)) one in
-    record {
-      fields = fields;
-      answer = answer;
-      bytes = ap₂ (λ (n : ℕ) (rec : Record). unlessRefused n log at rec) answer fields;
-    }
-
--- calls that are answered alike lead on alike
-alike-after : (s : State) (a b : Call) (behind : List Call) → callOn s a ≡ callOn s b → SameAfter s a b behind
-unfolding stateAfter eventsOn
-alike-after s a b behind e =
-    record {
-      answers = ap (λ (o : Outcome). o .answer ∷ answersOn (o .state) behind) e;
-      state = ap (λ (o : Outcome). stateAfter (o .state) behind) e;
-    }
-
-pub count-answers-alike : CountAnswersAlike
-count-answers-alike s stamp ws g behind =
-    alike-after s (words stamp ws) (count stamp (busyOf ws probes)) behind (sym (count-for-words s stamp ws g))
-
-pub alike-answer-alike : AlikeAnswerAlike
-alike-answer-alike s stamp ws ws′ same behind =
-    alike-after s (words stamp ws) (words stamp ws′) behind
-    (sym (count-for-words s stamp ws (same .good))
-    ∙ ap (λ (busy : ℕ). callOn s (count stamp busy)) (same .busy)
-    ∙ count-for-words s stamp ws′ (same .good′))

@@ -1,14 +1,14 @@
--- Bytes of a number one by one, and a write judged: the arguments' table first, then the place's.
-use Prim.Native.Nat.{ℕ, zero, suc, _+_, _-_, _/_, _%_, _≤_, _<_}
+-- Fields put one behind the other are the record's bytes; and a write is judged by the arguments' table first, then the place's.
+use Prim.Native.Nat.{ℕ, _+_, _/_, _%_, _≤_, _<_}
 use mathlib.Core.Path.{_≡_, refl, sym, ap, _∙_}
 use mathlib.Core.Bool.{Bool, cond}
 use mathlib.Core.List.{List, [], _∷_, _++_}
-use native.Mathlib.Nat.{add-zero}
+use native.Mathlib.Numerals.{add-one}
 use native.Mathlib.Omega.{arith}
 use borrow.Author.Tests.{lt-ltb, le-ltb, ltb-true, ltb-false, eqb-true, ne-eqb}
 use lib.Dec.{eqb, ltb}
-use lib.ListN.{length, getD, drop, length-append}
-use lib.Seq.{getD-drop, drop-drop}
+use lib.ListN.{length, set}
+use lib.Seq.{sets-eq}
 use Rattle.rules.specs.Refusals.{firstOf}
 use Rattle.rules.proofs.Cases.{split, on-test}
 use Rattle.rules.proofs.Refusals.{Numbered, first-append}
@@ -20,22 +20,11 @@ use Rattle.calllog.specs.Writing.{littleEndian, bytesOf, recordOf, argum
 use Rattle.calllog.specs.Writing.{writeNumber, unlessRefused, logAfter, Wrote}
 use Rattle.calllog.proofs.Buffers.{next}
 
-pub length-bytes : (width n : ℕ) → length (littleEndian width n) ≡ width
-unfolding littleEndian
-length-bytes zero n = refl
-length-bytes (suc width) n = ap suc (length-bytes width (n / 256))
-
--- what is left of a number's bytes at a place begins with the byte there, and goes on with those of the rest
-pub next-byte :
-    (bytes : List ℕ) (left rest i : ℕ) → drop i bytes ≡ littleEndian (suc left) rest
-    → (getD bytes i 0 ≡ rest % 256) × (drop (i + 1) bytes ≡ littleEndian left (rest / 256))
-unfolding littleEndian
-next-byte bytes left rest i e =
-    let here : getD (drop i bytes) 0 0 ≡ getD bytes i 0 = getD-drop i bytes 0 0 ∙ ap (λ (k : ℕ). getD bytes k 0) (add-zero i) in
-    (
-      sym here ∙ ap (λ (l : List ℕ). getD l 0 0) e,
-      sym (drop-drop 1 i bytes) ∙ ap (drop 1) e,
-    )
+-- two bytes stored one after the other
+pub two-stores :
+    (d : List ℕ) (at a b : ℕ) → at + 2 ≤ length d → set (set d at a) (at + 1) b ≡ written d at (a ∷ b ∷ [])
+two-stores d at a b h =
+    ap (λ (k : ℕ). set (set d at a) k b) (add-one at) ∙ sets-eq (a ∷ b ∷ []) d at h
 
 -- a text put behind another, at a place k
 more :
@@ -43,24 +32,32 @@ more :
     → l ≡ written d at s → l′ ≡ written l k t → l′ ≡ written d at (s ++ t)
 more d l l′ at k s t h p e f = next h (record { place = p; bytes = e }) (record { place = refl; bytes = f }) .bytes
 
--- six fields put one behind the other are the record's bytes
+-- four bytes are two and two
+pub two-and-two :
+    (d l l′ : List ℕ) (at n : ℕ) → at ≤ length d
+    → l ≡ written d at (littleEndian 2 n) → l′ ≡ written l (at + 2) (littleEndian 2 (n / 65536))
+    → l′ ≡ written d at (littleEndian 4 n)
+unfolding littleEndian
+two-and-two d l l′ at n h e f =
+    let halves : n / 65536 ≡ n / 256 / 256 = omega arith in
+    more d l l′ at (at + 2) (littleEndian 2 n) (littleEndian 2 (n / 65536)) h refl e f
+    ∙ ap (λ (m : ℕ). written d at (n % 256 ∷ n / 256 % 256 ∷ m % 256 ∷ m / 256 % 256 ∷ [])) halves
+
+-- the fields put one behind the other are the record's bytes
 pub fields :
-    (d l₁ l₂ l₃ l₄ l₅ l₆ : List ℕ) (at : ℕ) (rec : Record) → at ≤ length d
-    → l₁ ≡ written d at (littleEndian 1 (rec .kind))
-    → l₂ ≡ written l₁ (at + 1) (littleEndian 1 (rec .priority))
+    (d l₂ l₃ l₄ l₅ l₆ : List ℕ) (at : ℕ) (rec : Record) → at ≤ length d
+    → l₂ ≡ written d at (rec .kind % 256 ∷ rec .priority % 256 ∷ [])
     → l₃ ≡ written l₂ (at + 2) (littleEndian 2 (rec .ontime))
     → l₄ ≡ written l₃ (at + 4) (littleEndian 4 (rec .lifetime))
     → l₅ ≡ written l₄ (at + 8) (littleEndian 4 (rec .id))
     → l₆ ≡ written l₅ (at + 12) (littleEndian 4 (rec .stamp))
     → l₆ ≡ written d at (bytesOf rec)
 unfolding littleEndian bytesOf
-fields d l₁ l₂ l₃ l₄ l₅ l₆ at rec h e₁ e₂ e₃ e₄ e₅ e₆ =
-    let s₁ = littleEndian 1 (rec .kind) in
-    let s₂ = s₁ ++ littleEndian 1 (rec .priority) in
+fields d l₂ l₃ l₄ l₅ l₆ at rec h p₂ e₃ e₄ e₅ e₆ =
+    let s₂ = littleEndian 1 (rec .kind) ++ littleEndian 1 (rec .priority) in
     let s₃ = s₂ ++ littleEndian 2 (rec .ontime) in
     let s₄ = s₃ ++ littleEndian 4 (rec .lifetime) in
     let s₅ = s₄ ++ littleEndian 4 (rec .id) in
-    let p₂ = more d l₁ l₂ at (at + 1) s₁ (littleEndian 1 (rec .priority)) h refl e₁ e₂ in
     let p₃ = more d l₂ l₃ at (at + 2) s₂ (littleEndian 2 (rec .ontime)) h refl p₂ e₃ in
     let p₄ = more d l₃ l₄ at (at + 4) s₃ (littleEndian 4 (rec .lifetime)) h refl p₃ e₄ in
     let p₅ = more d l₄ l₅ at (at + 8) s₄ (littleEndian 4 (rec .id)) h refl p₄ e₅ in

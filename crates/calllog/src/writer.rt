@@ -1,7 +1,8 @@
 // The writer of the call log: from a call with its arguments to its record (document 02, W-206).
 ghost use mathlib.Core.Path.{_≡_};
 ghost use mathlib.Core.Bool.{cond};
-ghost use Prim.Native.Nat.{_+_, _≤_};
+ghost use mathlib.Core.List.{[], _∷_};
+ghost use Prim.Native.Nat.{_+_, _%_, _≤_};
 ghost use lib.Dec.{eqb};
 ghost use lib.ListN.{length};
 ghost use Rattle.rules.specs.Refusals.{firstOf};
@@ -10,8 +11,8 @@ ghost use Rattle.calllog.specs.Records.{makes, calls};
 ghost use Rattle.calllog.specs.Buffers.{written};
 ghost use Rattle.calllog.specs.Writing.{littleEndian, bytesOf, makeWidths, offerWidths};
 ghost use Rattle.calllog.specs.Writing.{placeChecks, sampleRecord, unlessRefused, Wrote};
-use crate::Record;
 use crate::RECORD_BYTES;
+use crate::Record;
 use model::Offer;
 use rules::Sample;
 
@@ -31,18 +32,30 @@ const MOST_IN_BYTE: u32 = 255;
 
 const MOST_IN_TWO: u32 = 65535;
 
-// Puts the lowest bytes of a number from `at` on, the low one first.
-fn put_bytes(log: &mut [u8], at: usize, width: usize, n: u32)
-    requires { ⌜ at + width ≤ length (now log) ⌝ }
-    ensures { λ _. ⌜ now (log .exit) ≡ written (now (log .entry)) at (littleEndian width n) ⌝ }
+// Puts the low bytes of two numbers from `at` on.
+fn put_pair(log: &mut [u8], at: usize, first: u32, second: u32)
+    requires { ⌜ at + 2 ≤ length (now log) ⌝ }
+    ensures { λ _. ⌜ now (log .exit) ≡ written (now (log .entry)) at (first % 256 ∷ second % 256 ∷ []) ⌝ }
 {
-    let mut rest = n;
-    let mut i: usize = 0;
-    while i < width {
-        log[at + i] = (rest % 256) as u8;
-        rest /= 256;
-        i += 1;
-    }
+    log[at] = (first % 256) as u8;
+    log[at + 1] = (second % 256) as u8;
+}
+
+// Puts the two low bytes of a number from `at` on.
+fn put_two(log: &mut [u8], at: usize, n: u32)
+    requires { ⌜ at + 2 ≤ length (now log) ⌝ }
+    ensures { λ _. ⌜ now (log .exit) ≡ written (now (log .entry)) at (littleEndian 2 n) ⌝ }
+{
+    put_pair(log, at, n, n / 256);
+}
+
+// Puts the four bytes of a number from `at` on.
+fn put_four(log: &mut [u8], at: usize, n: u32)
+    requires { ⌜ at + 4 ≤ length (now log) ⌝ }
+    ensures { λ _. ⌜ now (log .exit) ≡ written (now (log .entry)) at (littleEndian 4 n) ⌝ }
+{
+    put_two(log, at, n);
+    put_two(log, at + 2, n / 65536);
 }
 
 // Puts a record's 16 bytes from `at` on.
@@ -50,12 +63,11 @@ fn put_record(log: &mut [u8], at: usize, rec: Record)
     requires { ⌜ at + 16 ≤ length (now log) ⌝ }
     ensures { λ _. ⌜ now (log .exit) ≡ written (now (log .entry)) at (bytesOf rec) ⌝ }
 {
-    put_bytes(log, at, 1, rec.kind);
-    put_bytes(log, at + 1, 1, rec.priority);
-    put_bytes(log, at + 2, 2, rec.ontime);
-    put_bytes(log, at + 4, 4, rec.lifetime);
-    put_bytes(log, at + 8, 4, rec.id);
-    put_bytes(log, at + 12, 4, rec.stamp);
+    put_pair(log, at, rec.kind, rec.priority);
+    put_two(log, at + 2, rec.ontime);
+    put_four(log, at + 4, rec.lifetime);
+    put_four(log, at + 8, rec.id);
+    put_four(log, at + 12, rec.stamp);
 }
 
 // The refusal of a place without room for a record, or 0. `at + 16` might not fit 64 bits.

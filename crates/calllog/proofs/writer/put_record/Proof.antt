@@ -6,73 +6,63 @@ use borrow.Author.Needs.{needs}
 use Rattle.calllog.proofs.writer.put_record.Statement.{statement}
 use Rattle.calllog.proofs.writer.put_record.Tie as tie
 
-put-bytes-requires : tie.Need-put-bytes-requires
-put-bytes-requires c κs = search needs
+put-pair-requires : tie.Need-put-pair-requires
+put-pair-requires c κs = search needs
 
-add-put-bytes : tie.Need-add-put-bytes
-add-put-bytes c = search needs
+add-put-two : tie.Need-add-put-two
+add-put-two c = search needs
 
-put-bytes-requires-2 : tie.Need-put-bytes-requires-2
-put-bytes-requires-2 c κs = search needs
+put-two-requires : tie.Need-put-two-requires
+put-two-requires c κs = search needs
 
-add-put-bytes-2 : tie.Need-add-put-bytes-2
-add-put-bytes-2 c = search needs
+add-put-four : tie.Need-add-put-four
+add-put-four c = search needs
 
-put-bytes-requires-3 : tie.Need-put-bytes-requires-3
-put-bytes-requires-3 c κs = search needs
+put-four-requires : tie.Need-put-four-requires
+put-four-requires c κs = search needs
 
-add-put-bytes-3 : tie.Need-add-put-bytes-3
-add-put-bytes-3 c = search needs
+add-put-four-2 : tie.Need-add-put-four-2
+add-put-four-2 c = search needs
 
-put-bytes-requires-4 : tie.Need-put-bytes-requires-4
-put-bytes-requires-4 c κs = search needs
+put-four-requires-2 : tie.Need-put-four-requires-2
+put-four-requires-2 c κs = search needs
 
-add-put-bytes-4 : tie.Need-add-put-bytes-4
-add-put-bytes-4 c = search needs
+add-put-four-3 : tie.Need-add-put-four-3
+add-put-four-3 c = search needs
 
-put-bytes-requires-5 : tie.Need-put-bytes-requires-5
-put-bytes-requires-5 c κs = search needs
-
-add-put-bytes-5 : tie.Need-add-put-bytes-5
-add-put-bytes-5 c = search needs
-
-put-bytes-requires-6 : tie.Need-put-bytes-requires-6
-put-bytes-requires-6 c κs = search needs
+put-four-requires-3 : tie.Need-put-four-requires-3
+put-four-requires-3 c κs = search needs
 
 same-length : tie.Need-same-length
 same-length c = search needs
 
 returns : tie.Need-returns
 returns c =
-    let p₆ = c .before .before in
-    let p₅ = p₆ .before .before .before .before in
-    let p₄ = p₅ .before .before .before .before in
-    let p₃ = p₄ .before .before .before .before in
-    let p₂ = p₃ .before .before .before .before in
-    let p₁ = p₂ .before .before .before .before in
-    let a = p₁ .before .before .before .args in
-    fields (now (a .log)) _ _ _ _ _ _ (a .at) (a .rec) (omega arith)
-    (p₁ .put-bytes .ensures)
-    (p₂ .put-bytes2 .ensures)
-    (p₃ .put-bytes3 .ensures)
-    (p₄ .put-bytes4 .ensures)
-    (p₅ .put-bytes5 .ensures)
-    (p₆ .put-bytes6 .ensures)
+    let stamp = c .before .before in
+    let id = stamp .before .before .before .before in
+    let lifetime = id .before .before .before .before in
+    let ontime = lifetime .before .before .before .before in
+    let first = ontime .before .before .before .before in
+    let a = first .before .before .before .args in
+    fields (now (a .log)) _ _ _ _ _ (a .at) (a .rec) (omega arith)
+    (first .put-pair .ensures)
+    (ontime .put-two .ensures)
+    (lifetime .put-four .ensures)
+    (id .put-four2 .ensures)
+    (stamp .put-four3 .ensures)
 
 pub put-record-spec : {M : Type 1} → statement M
 put-record-spec =
     tie.close
     (tie.spec
-    put-bytes-requires
-    add-put-bytes
-    put-bytes-requires-2
-    add-put-bytes-2
-    put-bytes-requires-3
-    add-put-bytes-3
-    put-bytes-requires-4
-    add-put-bytes-4
-    put-bytes-requires-5
-    add-put-bytes-5
-    put-bytes-requires-6
+    put-pair-requires
+    add-put-two
+    put-two-requires
+    add-put-four
+    put-four-requires
+    add-put-four-2
+    put-four-requires-2
+    add-put-four-3
+    put-four-requires-3
     same-length
     returns)
