@@ -2,7 +2,7 @@
 use Prim.Native.Nat.{ℕ}
 use mathlib.Core.Path.{_≡_, sym, ap, ap₂, _∙_}
 use mathlib.Core.Bool.{Bool, true, not}
-use mathlib.Core.List.{List, [], _∷_}
+use mathlib.Core.List.{List, _∷_}
 use lib.ListN.{length}
 use Rattle.rules.specs.Refusals.{check, firstOf}
 use Rattle.rules.specs.Samples.{probes, busyOf, goodWords, sampleOf}
@@ -14,7 +14,7 @@ use Rattle.gate.specs.Runs.{stateAfter, eventsOn}
 use Rattle.gate.proofs.Sampling.{words-busy}
 use Rattle.calllog.specs.declared.Record.{Record}
 use Rattle.calllog.specs.Writing.{sampleRecord, recordOf, argumentChecks, placeChecks, writeNumber, unlessRefused, logAfter}
-use Rattle.calllog.specs.Writing.{Alike, ShareRecord, answersOn, SameAfter, CountAnswersAlike, AlikeAnswerAlike}
+use Rattle.calllog.specs.Writing.{ShareRecord, answersOn, SameAfter, CountAnswersAlike, AlikeAnswerAlike}
 
 -- a good sample by words is answered as the one by its count
 pub count-for-words :

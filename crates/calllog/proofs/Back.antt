@@ -17,8 +17,8 @@ use Rattle.model.specs.Calls.{words, count, offer, poll}
 use Rattle.calllog.specs.declared.Record.{Record}
 use Rattle.calllog.specs.Records.{recordBytes, byteAt, twoAt, fourAt, recordAt, Asked, makes, calls, unknown, askedBy}
 use Rattle.calllog.specs.Buffers.{written}
-use Rattle.calllog.specs.Writing.{littleEndian, bytesOf, recordOf, argumentChecks, placeChecks, writeNumber, logAfter, Narrow}
-use Rattle.calllog.specs.Writing.{Plain, Bytes, sixteenAt, WritesBack, ThereAndBack, BackExactly}
+use Rattle.calllog.specs.Writing.{littleEndian, bytesOf, recordOf, argumentChecks, placeChecks, writeNumber, logAfter}
+use Rattle.calllog.specs.Writing.{Narrow, Plain, Bytes, sixteenAt, WritesBack, BackExactly}
 use Rattle.calllog.proofs.Asking.{asks-nothing}
 use Rattle.calllog.proofs.Pieces.{same-record}
 use Rattle.calllog.proofs.Writing.{place-passed}

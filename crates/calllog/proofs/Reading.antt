@@ -1,30 +1,34 @@
 -- Reading back: 16 bytes at a place are read as the record that was written there, and a call's record asks that call, a
--- sample by words the one by its count.
+-- sample by words the one by its count; so the program answers a log of records as the gate answered the calls.
 use Prim.Native.Nat.{ℕ, _+_, _*_, _/_, _%_, _≤_, _<_}
-use mathlib.Core.Path.{_≡_, refl, sym, ap, _∙_}
+use mathlib.Core.Path.{_≡_, refl, sym, ap, ap₂, _∙_}
 use mathlib.Core.Bool.{Bool, true, false, cond}
-use mathlib.Core.List.{List, [], _∷_, _++_}
+use mathlib.Core.List.{List, [], _∷_, _++_, append-assoc}
 use native.Mathlib.Nat.{zero-add}
 use native.Mathlib.Omega.{arith}
 use borrow.Author.Tests.{eq-eqb, leb-false, ltb-false, not-false}
 use lib.Dec.{eqb}
 use lib.ListN.{length, getD, take, drop, length-append, List·getD-append}
-use lib.Seq.{length-take-le, getD-append-add}
+use lib.Seq.{length-take-le, getD-append-add, take-append-seam, drop-append-add}
 use Rattle.rules.specs.Refusals.{Check, firstOf, NoneHolds}
 use Rattle.rules.specs.Samples.{probes}
 use Rattle.rules.proofs.Cases.{clash}
 use Rattle.rules.proofs.Probes.{busy-le}
-use Rattle.rules.proofs.Refusals.{Numbered, exact, of-none, first-append}
+use Rattle.rules.proofs.Refusals.{Numbered, exact, none-of, of-none, first-append}
 use Rattle.model.specs.Calls.{words, count, offer, poll}
 use Rattle.gate.specs.declared.State.{State}
+use Rattle.gate.specs.declared.Outcome.{Outcome}
 use Rattle.calllog.specs.declared.Record.{Record}
 use Rattle.calllog.specs.Records.{recordBytes, byteAt, twoAt, fourAt, recordAt, Asked, makes, calls, unknown, askedBy}
 use Rattle.calllog.specs.Steps.{answered, stepOn}
+use Rattle.calllog.specs.Lines.{ascii, line, lineOf, lastLine}
 use Rattle.calllog.specs.Buffers.{written}
+use Rattle.calllog.specs.Text.{reachedFrom, linesFrom, outputFrom}
 use Rattle.calllog.specs.Writing.{littleEndian, bytesOf, recordOf, argumentChecks, placeChecks, writeChecks}
 use Rattle.calllog.specs.Writing.{writeNumber, logAfter, WritesExactly, Narrow, counted, ReadsBack, PlaysBack}
-use Rattle.calllog.proofs.Pieces.{same-record}
-use Rattle.calllog.proofs.Writing.{numbered, passed, room}
+use Rattle.calllog.specs.Writing.{WritesBehind, logOf, AllWritten, answerLines, LogPlaysBack}
+use Rattle.calllog.proofs.Pieces.{same-record, pieces}
+use Rattle.calllog.proofs.Writing.{numbered, place-passed, passed, room}
 use Rattle.calllog.proofs.Alike.{count-for-words}
 
 -- a record whose numbers fit its fields
@@ -159,11 +163,15 @@ asks (calls (offer stamp o)) = refl
 asks (calls (poll stamp)) = refl
 asks unknown = refl
 
+-- the record read where a call was written is the call's
+read-after :
+    (log : List ℕ) (at : ℕ) (a : Asked) → Narrow a → writeNumber log at a ≡ 0 → recordAt (logAfter log at a) at ≡ recordOf a
+read-after log at a n z =
+    ap (λ (l : List ℕ). recordAt l at) (put log at a z)
+    ∙ record-written log at (recordOf a) (has-room log at a z) (fits a n (none-held log at a z))
+
 pub reads-back : ReadsBack
-reads-back log at a n z =
-    ap (λ (l : List ℕ). askedBy (recordAt l at)) (put log at a z)
-    ∙ ap askedBy (record-written log at (recordOf a) (has-room log at a z) (fits a n (none-held log at a z)))
-    ∙ asks a
+reads-back log at a n z = ap askedBy (read-after log at a n z) ∙ asks a
 
 same-answer : (s : State) (a : Asked) → NoneHolds (argumentChecks a) → answered s (counted a) ≡ answered s a
 unfolding argumentChecks
@@ -174,9 +182,40 @@ same-answer s (calls (offer stamp o)) h = refl
 same-answer s (calls (poll stamp)) h = refl
 same-answer s unknown h = refl
 
-pub plays-back : PlaysBack
+-- so a record that was written is answered as its call
+step-same : (s : State) (a : Asked) (rec : Record) → rec ≡ recordOf a → NoneHolds (argumentChecks a) → stepOn s rec ≡ answered s a
 unfolding stepOn
-plays-back s log at a n z = ap (answered s) (reads-back log at a n z) ∙ same-answer s a (none-held log at a z)
+step-same s a rec e h = ap (λ (r : Record). answered s (askedBy r)) e ∙ ap (answered s) (asks a) ∙ same-answer s a h
+
+pub plays-back : PlaysBack
+plays-back s log at a n z =
+    step-same s a (recordAt (logAfter log at a) at) (read-after log at a n z) (none-held log at a z)
+
+pub writes-behind : WritesBehind
+unfolding logAfter
+writes-behind done room a h r =
+    let z : writeNumber (done ++ room) (length done) a ≡ 0 =
+    table (done ++ room) (length done) a
+    ∙ ap (λ (k : ℕ). cond (eqb k 0) (firstOf (placeChecks (length (done ++ room)) (length done))) k)
+    (none-of (argumentChecks a) h)
+    ∙ place-passed (length (done ++ room)) (length done) (omega (arith, length-append done room)) in
+    put (done ++ room) (length done) a z
+    ∙ ap₂ (λ (x y : List ℕ). x ++ bytesOf (recordOf a) ++ y)
+    (take-append-seam done room)
+    (ap (λ (n : ℕ). drop (length done + n) (done ++ room)) (length-record (recordOf a)) ∙ drop-append-add done room 16)
+
+-- record by record, each in a piece of its own
+pub log-plays-back : LogPlaysBack
+unfolding logOf AllWritten answerLines outputFrom reachedFrom linesFrom lastLine
+log-plays-back s [] h = refl
+log-plays-back s (a ∷ more) h =
+    let bytes = bytesOf (recordOf a) in
+    let step : stepOn s (recordAt bytes 0) ≡ answered s a =
+    step-same s a (recordAt bytes 0) (read-bytes (recordOf a) (fits a (h .0) (h .1))) (h .1) in
+    pieces s bytes (logOf more) 1 (length-record (recordOf a))
+    ∙ ap (λ (o : Outcome). lineOf (o .answer) ++ outputFrom (o .state) (logOf more)) step
+    ∙ ap (λ (l : List ℕ). lineOf (answered s a .answer) ++ l) (log-plays-back (answered s a .state) more (h .2))
+    ∙ sym (append-assoc (lineOf (answered s a .answer)) (answerLines (answered s a .state) more) (line (ascii "END")))
 
 numbered-append : (xs ys : List Check) → Numbered xs → Numbered ys → Numbered (xs ++ ys)
 numbered-append [] ys m n = n

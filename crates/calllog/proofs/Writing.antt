@@ -12,7 +12,7 @@ use lib.Seq.{sets-eq}
 use Rattle.rules.specs.Refusals.{firstOf}
 use Rattle.rules.proofs.Cases.{split, on-test}
 use Rattle.rules.proofs.Refusals.{Numbered, first-append}
-use Rattle.model.specs.Calls.{Call, words, count, offer, poll}
+use Rattle.model.specs.Calls.{words, count, offer, poll}
 use Rattle.calllog.specs.declared.Record.{Record}
 use Rattle.calllog.specs.Records.{Asked, makes, calls, unknown}
 use Rattle.calllog.specs.Buffers.{written}
@@ -116,6 +116,7 @@ judged log at a refusal number rec after r same n e =
     n
     ∙ ap (λ (k : ℕ). cond (eqb k 0) (firstOf (placeChecks (length log) at)) k) r
     ∙ sym (first-append (argumentChecks a) (placeChecks (length log) at) (numbered a)) in
+    let mine : number ≡ 0 → refusal ≡ 0 = passed refusal number (firstOf (placeChecks (length log) at)) n in
     record {
       answer = answer;
       bytes =
@@ -123,7 +124,7 @@ judged log at a refusal number rec after r same n e =
           ∙ on-test
           (λ (u : Bool). cond u (written log at (bytesOf rec)) log ≡ cond u (written log at (bytesOf (recordOf a))) log)
           (eqb number 0)
-          (λ z. ap (λ (x : Record). written log at (bytesOf x)) (same (passed refusal number (firstOf (placeChecks (length log) at)) n (eqb-true number 0 z))))
+          (λ z. ap (λ (x : Record). written log at (bytesOf x)) (same (mine (eqb-true number 0 z))))
           (λ z. refl)
           ∙ ap (λ (k : ℕ). unlessRefused k log at (recordOf a)) answer;
     }

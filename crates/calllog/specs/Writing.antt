@@ -1,12 +1,12 @@
--- The writer: the record of a call, its 16 bytes, and a log after it (document 02, W-206; document 01, "The call
--- log and its program").
+-- The writer: the record of a call, its 16 bytes, and a log after it (document 02, W-206; document 01,
+-- "The call log and its program").
 use Prim.Native.Nat.{ℕ, zero, suc, _+_, _/_, _%_, _^_, _≤_, _<_}
 use mathlib.Core.Path.{_≡_}
 use mathlib.Core.Bool.{Bool, true, not, cond}
 use mathlib.Core.List.{List, [], _∷_, _++_, map}
 use lib.Dec.{eqb, leb, ltb}
 use lib.ListN.{length, take, drop}
-use Rattle.rules.specs.Refusals.{Check, check, firstOf, Exact}
+use Rattle.rules.specs.Refusals.{Check, check, firstOf, NoneHolds, Exact}
 use Rattle.rules.specs.Samples.{probes, busyOf, goodWords}
 use Rattle.model.specs.declared.Offer.{Offer}
 use Rattle.model.specs.declared.Answer.{Answer}
@@ -16,7 +16,9 @@ use Rattle.gate.specs.Runs.{stateAfter, eventsOn}
 use Rattle.calllog.specs.declared.Record.{Record}
 use Rattle.calllog.specs.Records.{recordBytes, byteAt, recordAt, Asked, makes, calls, unknown, askedBy}
 use Rattle.calllog.specs.Steps.{answered, stepOn}
+use Rattle.calllog.specs.Lines.{ascii, line, lineOf}
 use Rattle.calllog.specs.Buffers.{written}
+use Rattle.calllog.specs.Text.{outputFrom}
 
 -- "little-endian": the lowest so many bytes of a number, the low one first
 unfoldable pub littleEndian : (width n : ℕ) → List ℕ
@@ -55,9 +57,9 @@ abbrev pub blankRecord : (kind stamp : ℕ) → Record
 blankRecord kind stamp =
     record { kind = kind; priority = 0; ontime = 0; lifetime = 0; id = 0; stamp = stamp }
 
--- the record of a call: "Kind 0 makes a state (priority field = profile)", "kind 0 with lifetime field 1 asks for
--- the old way, 0 for the new" (W-205); "A sample by words is written by its busy count"; "3 a poll". What no kind
--- asks is never written, and its record is of a kind that asks nothing
+-- the record of a call: "Kind 0 makes a state (priority field = profile)", "kind 0 with lifetime field 1 asks
+-- for the old way, 0 for the new" (W-205); "A sample by words is written by its busy count"; "3 a poll". What no
+-- kind asks is never written, and its record is of a kind that asks nothing
 unfoldable pub recordOf : Asked → Record
 recordOf (makes m) =
     record { kind = 0; priority = m .profile; ontime = 0; lifetime = m .oldway; id = 0; stamp = m .stamp }
@@ -78,10 +80,13 @@ makeWidths profile oldway = check 1 (tooWide 1 profile) ∷ check 1 (ltb 1 oldwa
 -- 5, 6 and 7: an offer's priority, on-time and lifetime
 abbrev pub offerWidths : Offer → List Check
 offerWidths o =
-    check 5 (tooWide 1 (o .priority)) ∷ check 6 (tooWide 2 (o .ontime)) ∷ check 7 (tooWide 4 (o .lifetime)) ∷ []
+    check 5 (tooWide 1 (o .priority))
+    ∷ check 6 (tooWide 2 (o .ontime))
+    ∷ check 7 (tooWide 4 (o .lifetime))
+    ∷ []
 
--- "A bad sample by words is refused with 4, and an argument too wide for its field with its own number, lowest
--- first"; what no kind asks gets 10, as a record that asks it does
+-- "A bad sample by words is refused with 4, and an argument too wide for its field with its own number,
+-- lowest first"; what no kind asks gets 10, as its record does in a log
 unfoldable pub argumentChecks : Asked → List Check
 argumentChecks (makes m) = makeWidths (m .profile) (m .oldway)
 argumentChecks (calls (words stamp ws)) = check 4 (not (goodWords ws)) ∷ []
@@ -119,7 +124,7 @@ pub record Wrote (log : List ℕ) (at : ℕ) (a : Asked) (number : ℕ) (after :
 abbrev pub WritesExactly : Type 0
 WritesExactly = (log : List ℕ) (at : ℕ) (a : Asked) → Exact (writeChecks log at a)
 
--- "Identifier and stamp" have no number of their own: they come as numbers of 32 bits
+-- a stamp and an identifier have no refusal: they come as numbers of 32 bits, which fit their fields
 abbrev pub In32 : ℕ → Type 0
 In32 n = n < 256 ^ 4
 
@@ -152,11 +157,40 @@ ReadsBack =
     (log : List ℕ) (at : ℕ) (a : Asked) → Narrow a → writeNumber log at a ≡ 0
     → askedBy (recordAt (logAfter log at a) at) ≡ counted a
 
--- so the program answers a record as the gate answered the call that was written, and goes on from the same state
+-- so the program answers a record as the gate answered the call that was written, and goes on from the same
+-- state
 abbrev pub PlaysBack : Type 0
 PlaysBack =
     (s : State) (log : List ℕ) (at : ℕ) (a : Asked) → Narrow a → writeNumber log at a ≡ 0
     → stepOn s (recordAt (logAfter log at a) at) ≡ answered s a
+
+-- a write behind what is written already, in a buffer with room for more
+abbrev pub WritesBehind : Type 0
+WritesBehind =
+    (done room : List ℕ) (a : Asked) → NoneHolds (argumentChecks a) → recordBytes ≤ length room
+    → logAfter (done ++ room) (length done) a ≡ done ++ bytesOf (recordOf a) ++ drop recordBytes room
+
+-- the log of calls written one behind the other
+unfoldable pub logOf : List Asked → List ℕ
+logOf [] = []
+logOf (a ∷ more) = bytesOf (recordOf a) ++ logOf more
+
+-- calls none of which the writer refuses
+unfoldable pub AllWritten : List Asked → Type 0
+AllWritten [] = Unit {0}
+AllWritten (a ∷ more) = Narrow a × NoneHolds (argumentChecks a) × AllWritten more
+
+-- the lines of the gate's own answers to calls one after the other
+unfoldable pub answerLines : State → List Asked → List ℕ
+answerLines s [] = []
+answerLines s (a ∷ more) = lineOf (answered s a .answer) ++ answerLines (answered s a .state) more
+
+-- "The trailer should record its own calls.": the program's text of that log is the answers that the gate
+-- gave, and END
+abbrev pub LogPlaysBack : Type 0
+LogPlaysBack =
+    (s : State) (made : List Asked) → AllWritten made
+    → outputFrom s (logOf made) ≡ answerLines s made ++ line (ascii "END")
 
 -- "a record of kind 0 to 3 with ignored fields zero, and 0 or 1 as a kind 0's lifetime"
 pub record Plain (rec : Record) : Type 0 where
@@ -208,7 +242,8 @@ ShareRecord =
 abbrev pub answersOn : State → List Call → List Answer
 answersOn s cs = map (λ (e : Call × Answer). e .1) (eventsOn s cs)
 
--- two calls "from the same state, with the same calls after": "the answers are the same", and the state reached
+-- two calls "from the same state, with the same calls after": "the answers are the same", and so is the state
+-- reached
 pub record SameAfter (s : State) (a b : Call) (behind : List Call) : Type 0 where
   pub answers : answersOn s (a ∷ behind) ≡ answersOn s (b ∷ behind)
   pub state : stateAfter s (a ∷ behind) ≡ stateAfter s (b ∷ behind)

@@ -1,4 +1,5 @@
-// The call log's writer for a C or Rust host: each call's record at a place of a lent buffer (document 02, W-206).
+// The call log's writer for a C or Rust host: each call's record at a place of a lent buffer (document 02,
+// W-206).
 ghost use Rattle.model.specs.Calls.{words, count, offer, poll};
 ghost use Rattle.calllog.specs.Records.{makes, calls};
 ghost use Rattle.calllog.specs.Writing.{Wrote};

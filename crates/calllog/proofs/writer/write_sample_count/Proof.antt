@@ -1,5 +1,4 @@
 -- The record is the sample's, whose count of 32 bits is not too wide.
-use mathlib.Core.Path.{_≡_, sym}
 use native.Mathlib.Omega.{arith}
 use borrow.Author.Tests.{lt-leb}
 use denote.Ref.{now}

@@ -1,5 +1,5 @@
 -- A good sample's record is that of its busy count; a bad one is refused, whatever its record.
-use mathlib.Core.Path.{_≡_, refl, sym, ap, _∙_}
+use mathlib.Core.Path.{sym, ap, _∙_}
 use native.Mathlib.Omega.{arith}
 use denote.Ref.{now}
 use Rattle.rules.specs.Refusals.{firstOf}
