@@ -7,12 +7,13 @@ use Rattle.packing.specs.Packing.{filled, allAre, padded}
 use Rattle.model.specs.declared.Packet.{Packet}
 use Rattle.model.specs.declared.Answer.the-variants.{Ready, Taken, Sent, Refused}
 use Rattle.model.specs.Packets.{noPacket}
-use Rattle.model.specs.Calls.{offer, poll}
+use Rattle.model.specs.Calls.{Call, offer, poll}
 use Rattle.model.proofs.Computing.{of-runs}
 use Rattle.queue.specs.declared.Queue.{Queue}
 use Rattle.queue.specs.Layout.{packed}
 use Rattle.gate.specs.declared.State.{State}
 use Rattle.gate.specs.Layout.{stateFrom, numbersOf, soundState, outcome, callOn, makeState}
+use Rattle.gate.specs.Runs.{stateAfter}
 
 of-states : Type 0
 unfolding of-runs filled allAre padded packed soundState callOn makeState
@@ -66,3 +67,31 @@ offered : (callOn fresh (offer 7 (record { id = 9; priority = 0; ontime = 400; l
     ≡ good ∷ empty ∷ empty ∷ empty ∷ [])
 unfolding of-states fresh empty good waiting
 offered = (refl, refl)
+
+-- "where five unexpired packets wait, the front one leaves and the new one joins" (document 02, W-205): the slots move up by one
+offers : List ℕ → List Call
+offers [] = []
+offers (id ∷ ids) = offer 7 (record { id = id; priority = 0; ontime = 400; lifetime = 1000 }) ∷ offers ids
+
+waits : ℕ → Packet
+waits id = record { id = id; priority = 0; ontime = 400; lifetime = 1000; arrival = 0 }
+
+six : State
+six = stateAfter fresh (offers (1 ∷ 2 ∷ 3 ∷ 4 ∷ 5 ∷ 6 ∷ []))
+
+displaced-front :
+    (six .queues
+    ≡ record { len = 5; slots = waits 2 ∷ waits 3 ∷ waits 4 ∷ waits 5 ∷ waits 6 ∷ [] } ∷ empty ∷ empty ∷ empty ∷ [])
+    × (six .counts ≡ record { accepted = 6; sent = 0; expired = 0; displaced = 1 })
+    × (soundState six ≡ true)
+unfolding of-states fresh empty six offers waits stateAfter
+displaced-front = (refl, refl, refl)
+
+-- "Number 8 is given only by a gate made in the old way"
+old-five : State
+old-five = stateAfter (makeState (record { profile = 2; oldway = 1; stamp = 7 }) .state) (offers (1 ∷ 2 ∷ 3 ∷ 4 ∷ 5 ∷ []))
+
+refused-in-the-old-way :
+    callOn old-five (offer 7 (record { id = 6; priority = 0; ontime = 400; lifetime = 1000 })) .answer ≡ Refused 8
+unfolding of-states old-five offers stateAfter
+refused-in-the-old-way = refl
