@@ -354,6 +354,7 @@ presscurlew_turn presscurlew_poll(presscurlew_state state, uint32_t stamp);
  *
  * A log starts with a make, and has all calls on that one state in their order. A sample by words is in it by its
  * busy count, which is all that the gate looks at: played, it is answered alike, and so is all that comes after it.
+ * So the host may take the count from the record, and make the sample by it; the words are then counted once.
  *
  * A refusal writes nothing. It comes where a number does not fit its bytes, whatever the gate would make of it:
  * profile 77, priority 200 or a busy count of 5,000 are written, and played they are refused as they were. The first
