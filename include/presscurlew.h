@@ -2,16 +2,16 @@
  * Presscurlew: a transmit gate for a shared 5.9 GHz radio channel, for radio stacks in C and C++.
  *
  * Three archives, each for itself:
- *   the gate    make, sample, offer and poll on a state that the host keeps                link libhost.a
- *   the burst   many offers on such a state in one call                                    link libbursts.a
- *   the rules   the gate's rules on plain numbers, for a stack that has a gate of its own  link libcstack.a
+ *   the gate    make, sample, offer and poll on a state that the host keeps, and their log  link libhost.a
+ *   the burst   many offers on such a state in one call                                     link libbursts.a
+ *   the rules   the gate's rules on plain numbers, for a stack that has a gate of its own   link libcstack.a
  * They stand in target/staticlib (x86-64, System V calling convention).
  *
  * Each call is proved to answer what its comment says, for any numbers and any state at all: nothing is
  * undefined and nothing aborts. All are pure functions: what they need comes in by value (but for the words
  * of a sample and the records of a burst, which are only read) and what they give goes out by value (but for
- * the answers of a burst, which are written). They keep nothing, allocate nothing and take no lock. Any number
- * of threads, and interrupt handlers, may call them at once.
+ * the answers of a burst and a record of the log, which are written). They keep nothing, allocate nothing and
+ * take no lock. Any number of threads, and interrupt handlers, may call them at once.
  *
  * Units
  *   time      microseconds (us)
@@ -41,7 +41,8 @@ extern "C" {
 /*
  * The refusal numbers of the gate. A call tests 9, 2 and 3, then 4, or 5 to 8 and 11, as they apply; the first
  * that holds is the answer. A refused call changes nothing: it hands back the state that it was given,
- * clock and counts included. A burst tests 13, then 12, and then goes record by record.
+ * clock and counts included. A burst tests 13, then 12, and then goes record by record. What the calls that
+ * write the log refuse stands with them.
  */
 enum presscurlew_refusal {
     PRESSCURLEW_BAD_PROFILE = 1,  /* make: the profile is not 1 to 3, or when_full is above 1 */
@@ -55,7 +56,7 @@ enum presscurlew_refusal {
     PRESSCURLEW_NO_STATE = 9,     /* the state is not sound: make refused it, or it was changed */
     PRESSCURLEW_BAD_KIND = 10,    /* burst, as the answer to one record: its kind is not 2 */
     PRESSCURLEW_SPENT = 11,       /* the gate has accepted 10^15 offers */
-    PRESSCURLEW_NO_ROOM = 12,     /* burst: fewer answer bytes than records */
+    PRESSCURLEW_NO_ROOM = 12,     /* burst: fewer answer bytes than records; log: no 16 bytes at that place */
     PRESSCURLEW_TORN_LOG = 13     /* burst: the bytes of the records are not a multiple of 16 */
 };
 
@@ -235,7 +236,7 @@ presscurlew_turn presscurlew_sample_count(presscurlew_state state, uint32_t busy
 presscurlew_turn presscurlew_offer(presscurlew_state state, uint32_t id, uint32_t priority, uint32_t ontime,
                                    uint32_t lifetime, uint32_t stamp);
 
-/* A record of a burst has so many bytes, and its first one is this kind. */
+/* A record, of a burst or of the log, has so many bytes. The first one is its kind, in a burst this. */
 enum { PRESSCURLEW_RECORD_BYTES = 16, PRESSCURLEW_RECORD_OFFER = 2 };
 
 /* What a burst hands back. */
@@ -292,7 +293,9 @@ static inline void presscurlew_put_number(uint8_t *at, uint32_t number, unsigned
 /*
  * Puts an offer, with the numbers in the order of presscurlew_offer, into the 16 bytes at `record`. A priority above
  * 255 is put as 255 and an on-time above 65,535 as 65,535, which is all that their bytes hold: no profile allows
- * any of these, so that the record is refused just as the single call is.
+ * any of these, so that the record is refused just as the single call is. (presscurlew_write_offer, below, writes
+ * the same bytes but refuses what is too wide. This one never does: each offer of a burst keeps its place and gets
+ * its answer there.)
  */
 static inline void presscurlew_put_offer(uint8_t *record, uint32_t id, uint32_t priority, uint32_t ontime,
                                          uint32_t lifetime, uint32_t stamp) {
@@ -320,6 +323,71 @@ static inline void presscurlew_put_offer(uint8_t *record, uint32_t id, uint32_t 
  * Refusals: NO_STATE, CLOCK_BACK, CLOCK_END.
  */
 presscurlew_turn presscurlew_poll(presscurlew_state state, uint32_t stamp);
+
+/*
+ * The log
+ * =======
+ *
+ * A host that records its calls can show afterwards what it did: the program replay plays such a log, and gives the
+ * answers that the gate gave.
+ *
+ * Each of these calls writes the record of one call, 16 bytes, at `at` of the `bytes` bytes behind `log`, and answers
+ * 0. All other bytes keep what they had. The layout is that of a burst's records; what a kind does not use is 0:
+ *
+ *   byte      0     1         2 and 3   4 to 7     8 to 11     12 to 15
+ *   make      0     profile   0         when_full  0           stamp
+ *   sample    1     0         0         0          busy        stamp
+ *   offer     2     priority  on-time   lifetime   identifier  stamp
+ *   poll      3     0         0         0          0           stamp
+ *
+ * Record first, then call, so that the log of a crash has the last call in it:
+ *
+ *   uint8_t record[PRESSCURLEW_RECORD_BYTES];
+ *   uint32_t now = radio_clock();
+ *   presscurlew_write_poll(now, record, sizeof record, 0);
+ *   if (fwrite(record, sizeof record, 1, file) != 1 || fflush(file) != 0)
+ *       ...                                                    a call that is not in the log is better not made
+ *   turn = presscurlew_poll(state, now);
+ *
+ * A burst needs no writing: its records, one after the other, are what the log says of it. They go to the file as
+ * they are, before the burst.
+ *
+ * A log starts with a make, and has all calls on that one state in their order. A sample by words is in it by its
+ * busy count, which is all that the gate looks at: played, it is answered alike, and so is all that comes after it.
+ *
+ * A refusal writes nothing. It comes where a number does not fit its bytes, whatever the gate would make of it:
+ * profile 77, priority 200 or a busy count of 5,000 are written, and played they are refused as they were. The first
+ * of these that holds is the answer:
+ *   PRESSCURLEW_BAD_PROFILE    make: the profile is above 255, or when_full is above 1
+ *   PRESSCURLEW_BAD_SAMPLE     sample by words: not 16 words, or a bit above bit 39 set in the last
+ *   PRESSCURLEW_BAD_PRIORITY   offer: the priority is above 255
+ *   PRESSCURLEW_BAD_ON_TIME    offer: the on-time is above 65,535
+ *   PRESSCURLEW_NO_ROOM        any: there are no 16 bytes at `at`, however large it is
+ * All but the last are calls that the gate refuses too, in any state, so that a log without them still leads from
+ * state to state as the host went. A host that wants a record for each call writes, in place of such a one, one that
+ * the gate refuses with the same number: profile 255, a busy count of 4,294,967,295, or presscurlew_put_offer.
+ *
+ * What the caller answers for: `log` points to `bytes` bytes, of which none is a byte of the words. With 0 bytes it
+ * may be NULL.
+ */
+
+/* The record of presscurlew_make. Refusals: BAD_PROFILE, NO_ROOM. */
+uint32_t presscurlew_write_make(uint32_t profile, uint32_t when_full, uint32_t stamp, uint8_t *log, size_t bytes,
+                                size_t at);
+
+/* The record of presscurlew_sample_words: that of its busy count. Refusals: BAD_SAMPLE, NO_ROOM. */
+uint32_t presscurlew_write_sample_words(const uint64_t *words, size_t count, uint32_t stamp, uint8_t *log, size_t bytes,
+                                        size_t at);
+
+/* The record of presscurlew_sample_count. Refusals: NO_ROOM. */
+uint32_t presscurlew_write_sample_count(uint32_t busy, uint32_t stamp, uint8_t *log, size_t bytes, size_t at);
+
+/* The record of presscurlew_offer. Refusals: BAD_PRIORITY, BAD_ON_TIME, NO_ROOM. */
+uint32_t presscurlew_write_offer(uint32_t id, uint32_t priority, uint32_t ontime, uint32_t lifetime, uint32_t stamp,
+                                 uint8_t *log, size_t bytes, size_t at);
+
+/* The record of presscurlew_poll. Refusals: NO_ROOM. */
+uint32_t presscurlew_write_poll(uint32_t stamp, uint8_t *log, size_t bytes, size_t at);
 
 /*
  * The rules

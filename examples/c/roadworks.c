@@ -5,9 +5,15 @@
  * The radio is played: its clock is `now`, which wraps on the way, and hear_channel makes up what it probes.
  * All else is what a host does: keep the state, sample, offer, poll, and wait as long as CLOSED says. What comes
  * together, warnings among it, is offered together, as a burst.
+ *
+ *   roadworks [LOG [ANSWERS]]
+ *
+ * records its calls to LOG, each before it is made, and writes what they were answered to ANSWERS, in the words of the
+ * program replay: played, the log gives these answers. Without a LOG nothing is recorded.
  */
 #include <inttypes.h>
 #include <stdio.h>
+#include <stdlib.h>
 #include <string.h>
 
 #include "presscurlew.h"
@@ -41,6 +47,8 @@ typedef struct host {
     uint8_t records[BURST][PRESSCURLEW_RECORD_BYTES];
     uint32_t ids[BURST];
     uint32_t offered, refused, air_time;
+    FILE *log;     /* the calls; NULL if they are not recorded */
+    FILE *answers; /* what they were answered; NULL if it is not written */
 } host;
 
 static uint32_t since_start_ms(const host *h) { return (h->now - START) / 1000; }
@@ -50,6 +58,34 @@ static const char *refusal_name(uint64_t number) {
                                         "BAD-PRIORITY", "BAD-ON-TIME", "BAD-LIFETIME", "QUEUE-FULL", "NO-STATE",
                                         "BAD-KIND",     "SPENT"};
     return number < sizeof names / sizeof names[0] ? names[number] : "?";
+}
+
+/* This host does nothing that it has not recorded: it ends. Another may go on, and say so. */
+static void give_up(const char *what) {
+    perror(what);
+    exit(1);
+}
+
+/* Records calls before they are made. Flushed, they outlive a crash of the host. */
+static void record(const host *h, const uint8_t *records, size_t count) {
+    if (h->log == NULL)
+        return;
+    if (fwrite(records, PRESSCURLEW_RECORD_BYTES, count, h->log) != count || fflush(h->log) != 0)
+        give_up("the call log");
+}
+
+/* Notes the answer to a call, in the words of replay. */
+static void note(const host *h, const presscurlew_reply *reply) {
+    static const char *const words[] = {"READY", "TAKEN", "SENT", "IDLE", "CLOSED", "REFUSED"};
+
+    if (h->answers == NULL)
+        return;
+    fputs(words[reply->kind], h->answers);
+    if (reply->kind == PRESSCURLEW_SENT)
+        fprintf(h->answers, " %" PRIu32, reply->packet.id);
+    if (reply->kind == PRESSCURLEW_CLOSED || reply->kind == PRESSCURLEW_REFUSED)
+        fprintf(h->answers, " %" PRIu64, reply->number);
+    fputc('\n', h->answers);
 }
 
 /* 1,000 probes of the channel, of which so many are busy. */
@@ -63,10 +99,14 @@ static void hear_channel(uint64_t words[16], unsigned busy) {
 static void sample(host *h, unsigned busy) {
     uint32_t level = h->state.tuning.level;
     uint64_t words[16];
+    uint8_t call[PRESSCURLEW_RECORD_BYTES];
 
     hear_channel(words, busy);
+    presscurlew_write_sample_words(words, 16, h->now, call, sizeof call, 0);
+    record(h, call, 1);
     presscurlew_turn turn = presscurlew_sample_words(h->state, words, 16, h->now);
     h->state = turn.state;
+    note(h, &turn.reply);
     /* The wait may be another one now, so the next poll is not put off any longer. */
     h->quiet_until = h->now;
     if (h->state.tuning.level != level)
@@ -83,15 +123,25 @@ static void prepare(host *h, int kind) {
     h->ids[h->ready++] = id;
 }
 
-/* Offers all that is ready in one call. */
+/* The reply to an offer of a burst, by its answer byte. */
+static presscurlew_reply reply_of(uint8_t answer) {
+    presscurlew_reply reply = {.kind = answer == 0 ? PRESSCURLEW_TAKEN : PRESSCURLEW_REFUSED, .number = answer};
+
+    return reply;
+}
+
+/* Offers all that is ready in one call. Its records are those of the log. */
 static void offer_burst(host *h) {
     uint8_t answers[BURST];
+
+    record(h, h->records[0], h->ready);
     /* The records are whole and each has its answer byte, so that the burst itself is not refused. */
     presscurlew_burst_turn turn =
         presscurlew_burst(h->state, h->records[0], h->ready * sizeof h->records[0], answers, sizeof answers);
-
     h->state = turn.state;
     for (unsigned i = 0; i < h->ready; i++) {
+        presscurlew_reply reply = reply_of(answers[i]);
+        note(h, &reply);
         if (answers[i] == 0)
             continue;
         h->refused++;
@@ -111,9 +161,13 @@ static void transmit(host *h, const presscurlew_packet *packet) {
 }
 
 static void poll(host *h) {
-    presscurlew_turn turn = presscurlew_poll(h->state, h->now);
+    uint8_t call[PRESSCURLEW_RECORD_BYTES];
 
+    presscurlew_write_poll(h->now, call, sizeof call, 0);
+    record(h, call, 1);
+    presscurlew_turn turn = presscurlew_poll(h->state, h->now);
     h->state = turn.state;
+    note(h, &turn.reply);
     switch (turn.reply.kind) {
     case PRESSCURLEW_SENT:
         transmit(h, &turn.reply.packet);
@@ -166,15 +220,46 @@ static void sum_up(const host *h) {
     printf("%" PRIu64 " displaced, %" PRIu64 " waiting\n", counts->displaced, waiting(&h->state));
 }
 
-int main(void) {
-    /* What the gate has taken it never drops, and the host hears at once of a message that finds no room. */
-    presscurlew_turn made = presscurlew_make(1, PRESSCURLEW_REFUSE_NEW, START);
-    host h = {.state = made.state, .now = START, .quiet_until = START};
+/* The file of an argument, NULL if there is none. */
+static FILE *open_file(const char *path) {
+    FILE *file = path == NULL ? NULL : fopen(path, "wb");
 
-    if (made.reply.kind != PRESSCURLEW_READY)
+    if (path != NULL && file == NULL)
+        give_up(path);
+    return file;
+}
+
+static void close_file(FILE *file) {
+    if (file != NULL && (ferror(file) || fclose(file) != 0))
+        give_up("at the end");
+}
+
+/* Makes the gate; whether it is ready. */
+static int make(host *h) {
+    uint8_t call[PRESSCURLEW_RECORD_BYTES];
+
+    /* What the gate has taken it never drops, and the host hears at once of a message that finds no room. */
+    presscurlew_write_make(1, PRESSCURLEW_REFUSE_NEW, h->now, call, sizeof call, 0);
+    record(h, call, 1);
+    presscurlew_turn turn = presscurlew_make(1, PRESSCURLEW_REFUSE_NEW, h->now);
+    h->state = turn.state;
+    note(h, &turn.reply);
+    return turn.reply.kind == PRESSCURLEW_READY;
+}
+
+int main(int argc, char **argv) {
+    host h = {.now = START, .quiet_until = START};
+
+    h.log = open_file(argc > 1 ? argv[1] : NULL);
+    h.answers = open_file(argc > 2 ? argv[2] : NULL);
+    if (!make(&h))
         return 1;
     for (unsigned t = 0; t < TICKS; t++)
         tick(&h, t);
     sum_up(&h);
+    if (h.answers != NULL)
+        fputs("END\n", h.answers);
+    close_file(h.log);
+    close_file(h.answers);
     return 0;
 }

@@ -6,10 +6,21 @@
 //! The radio is played: its clock is `now`, which wraps on the way, and `hear_channel` makes up what it probes.
 //! All else is what a host does: sample, offer, poll, and wait as long as `Closed` says. What comes together, warnings
 //! among it, is offered together, as a burst.
+//!
+//! ```text
+//! roadworks [LOG [ANSWERS]]
+//! ```
+//!
+//! records its calls to LOG, each before it is made, and writes what they were answered to ANSWERS, in the words of the
+//! program `replay`: played, the log gives these answers. Without a LOG nothing is recorded.
 
+use std::env;
+use std::error::Error;
+use std::fs::File;
+use std::io::{self, BufWriter, Write};
 use std::mem;
 
-use presscurlew::{Answer, Counts, Gate, Offer, Packet, Refusal, WhenFull};
+use presscurlew::{Answer, Counts, Offer, Packet, Recorder, WhenFull};
 
 const START: u32 = 4_294_000_000;
 const TICK_US: u32 = 10_000;
@@ -54,8 +65,17 @@ fn message(id: u32) -> Message {
     MESSAGES[id as usize & 3]
 }
 
+/// Where the host writes to: a file, or nowhere.
+type Sink = Box<dyn Write>;
+
+/// What the host can't go on after: a refusal that it does not expect, or a file that can't be written.
+type Fault = Box<dyn Error>;
+
 struct Host {
-    gate: Gate,
+    /// The gate, which records each call before it makes it.
+    gate: Recorder<Sink>,
+    /// What the calls were answered.
+    answers: Sink,
     /// The radio's clock.
     now: u32,
     /// No use to poll before: the gate said CLOSED.
@@ -79,10 +99,13 @@ fn hear_channel(busy: usize) -> [u64; 16] {
 }
 
 impl Host {
-    fn new() -> Result<Host, Refusal> {
+    fn new(log: Sink, mut answers: Sink) -> Result<Host, Fault> {
+        // What the gate has taken it never drops, and the host hears at once of a message that finds no room.
+        let gate = Recorder::new(1, WhenFull::RefuseNew, START, log)?;
+        writeln!(answers, "READY")?;
         Ok(Host {
-            // What the gate has taken it never drops, and the host hears at once of a message that finds no room.
-            gate: Gate::new(1, WhenFull::RefuseNew, START)?,
+            gate,
+            answers,
             now: START,
             quiet_until: START,
             ready: Vec::new(),
@@ -98,12 +121,17 @@ impl Host {
         println!("{:5} ms  {what}", since_start / 1_000);
     }
 
-    fn sample(&mut self, busy: usize) -> Result<(), Refusal> {
-        let level = self.gate.state().tuning.level;
+    fn level(&self) -> u32 {
+        self.gate.gate().state().tuning.level
+    }
+
+    fn sample(&mut self, busy: usize) -> Result<(), Fault> {
+        let level = self.level();
         self.gate.sample_words(&hear_channel(busy), self.now)?;
+        writeln!(self.answers, "TAKEN")?;
         // The wait may be another one now, so the next poll is not put off any longer.
         self.quiet_until = self.now;
-        let next = self.gate.state().tuning.level;
+        let next = self.level();
         if next != level {
             self.tell(&format!("level {next}"));
         }
@@ -130,21 +158,25 @@ impl Host {
     }
 
     /// Offers all that is ready in one call.
-    fn offer_burst(&mut self) {
-        let answers = self.gate.offer_burst(&self.ready);
+    fn offer_burst(&mut self) -> Result<(), Fault> {
+        let answers = self.gate.offer_burst(&self.ready)?;
         for ((offer, _), answer) in mem::take(&mut self.ready).into_iter().zip(answers) {
-            if let Err(refusal) = answer {
-                self.refused += 1;
-                let (name, number) = (message(offer.id).name, offer.id >> 2);
-                self.tell(&format!("{name} {number} refused: {}", refusal.name()));
-            }
+            let Err(refusal) = answer else {
+                writeln!(self.answers, "TAKEN")?;
+                continue;
+            };
+            writeln!(self.answers, "REFUSED {}", refusal.number())?;
+            self.refused += 1;
+            let (name, number) = (message(offer.id).name, offer.id >> 2);
+            self.tell(&format!("{name} {number} refused: {}", refusal.name()));
         }
+        Ok(())
     }
 
     /// Puts a packet on air.
     fn transmit(&mut self, packet: Packet) {
         self.air_time += packet.ontime;
-        let waited = self.gate.state().clock.time - packet.arrival;
+        let waited = self.gate.gate().state().clock.time - packet.arrival;
         let (name, number) = (message(packet.id).name, packet.id >> 2);
         self.tell(&format!(
             "{name} {number} sent, it waited {} ms",
@@ -152,8 +184,10 @@ impl Host {
         ));
     }
 
-    fn poll(&mut self) -> Result<(), Refusal> {
-        match self.gate.poll(self.now)? {
+    fn poll(&mut self) -> Result<(), Fault> {
+        let answer = self.gate.poll(self.now)?;
+        writeln!(self.answers, "{answer}")?;
+        match answer {
             Answer::Sent(packet) => self.transmit(packet),
             // The gate is closed for at most 1,001,000 µs, so it fits.
             Answer::Closed { micros } => self.quiet_until = self.now.wrapping_add(micros as u32),
@@ -167,7 +201,7 @@ impl Host {
         self.now.wrapping_sub(moment) < 1 << 31
     }
 
-    fn tick(&mut self, t: u32) -> Result<(), Refusal> {
+    fn tick(&mut self, t: u32) -> Result<(), Fault> {
         if t % 10 == 0 {
             self.sample(match t {
                 0..50 => 200,
@@ -185,7 +219,7 @@ impl Host {
             (0..6).for_each(|_| self.prepare(MAP));
         }
         if !self.ready.is_empty() {
-            self.offer_burst();
+            self.offer_burst()?;
         }
         if self.has_come(self.quiet_until) {
             self.poll()?;
@@ -208,18 +242,31 @@ impl Host {
             sent,
             expired,
             displaced,
-        } = self.gate.counts();
-        let queues = self.gate.state().queues.iter();
+        } = self.gate.gate().counts();
+        let queues = self.gate.gate().state().queues.iter();
         let waiting: u64 = queues.map(|queue| queue.len).sum();
         println!("{accepted} accepted: {sent} sent, {expired} expired, {displaced} displaced, {waiting} waiting");
     }
 }
 
-fn main() -> Result<(), Refusal> {
-    let mut host = Host::new()?;
+/// The file of an argument, or nowhere if there is none.
+fn sink(path: Option<String>) -> io::Result<Sink> {
+    Ok(match path {
+        Some(path) => Box::new(File::create(path)?),
+        None => Box::new(io::sink()),
+    })
+}
+
+fn main() -> Result<(), Fault> {
+    let mut paths = env::args().skip(1);
+    let log = sink(paths.next())?;
+    let answers = BufWriter::new(sink(paths.next())?);
+    let mut host = Host::new(log, Box::new(answers))?;
     for t in 0..TICKS {
         host.tick(t)?;
     }
     host.sum_up();
+    writeln!(host.answers, "END")?;
+    host.answers.flush()?;
     Ok(())
 }

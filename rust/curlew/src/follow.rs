@@ -6,7 +6,7 @@
 use reference::book::Book;
 use reference::calls::SPENT;
 use reference::gate::{Answer, Call};
-use reference::log::{step, Record};
+use reference::log::{read, step, LogCall, Record};
 use reference::state::{Packet, State};
 
 use crate::fault::Fault;
@@ -303,17 +303,8 @@ impl Run {
 
 /// The call of a record, if it is one on a state.
 fn call_of(record: &Record) -> Option<Call> {
-    let Record { id, stamp, .. } = *record;
-    match record.kind {
-        1 => Some(Call::SampleCount { busy: id, stamp }),
-        2 => Some(Call::Offer {
-            id,
-            priority: u32::from(record.priority),
-            ontime: u32::from(record.ontime),
-            lifetime: record.lifetime,
-            stamp,
-        }),
-        3 => Some(Call::Poll { stamp }),
+    match read(record) {
+        Ok(LogCall::On(call)) => Some(call),
         _ => None,
     }
 }

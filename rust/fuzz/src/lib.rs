@@ -1,4 +1,4 @@
-//! The archive beside the reference, on states, calls and bursts that libFuzzer makes up.
+//! The archive beside the reference, on states, calls and bursts that libFuzzer makes up, and on calls written to a log.
 //!
 //! The input is read number by number. Most numbers are picked from those where a rule turns; any other can come
 //! too. An input that is used up gives zeros. A difference panics, which libFuzzer reports with the input.
@@ -8,10 +8,11 @@
 mod help;
 
 use help::{
-    hold, hold_burst, hold_no_state, hold_no_state_burst, raw, Call, ACCEPTED_MOST, EDGE_COUNTS,
-    EDGE_LIFETIMES, EDGE_ONTIMES, EDGE_PRIORITIES, EDGE_STEPS, TIME_END,
+    archive_write, hold, hold_burst, hold_no_state, hold_no_state_burst, hold_write, raw, Call,
+    LogCall, ACCEPTED_MOST, EDGE_COUNTS, EDGE_LIFETIMES, EDGE_ONTIMES, EDGE_PRIORITIES, EDGE_STEPS,
+    TIME_END,
 };
-use reference::log::{Record, RECORD_BYTES};
+use reference::log::{read, Record, RECORD_BYTES};
 use reference::state::{sound, Packet, State};
 
 /// What is left of the input.
@@ -200,6 +201,49 @@ impl Input<'_> {
             _ => Call::Poll { stamp },
         }
     }
+
+    /// What is written: a make, an offer with numbers at the edges of their fields, or the call.
+    fn log_call(&mut self, call: &Call) -> LogCall {
+        let stamp = self.number();
+        match self.byte() % 4 {
+            0 => LogCall::Make {
+                profile: self.of(&[1, 2, 3, 0, 4, 255, 256, u32::MAX]),
+                oldway: self.of(&[0, 1, 2, 256, u32::MAX]),
+                stamp,
+            },
+            1 => LogCall::On(Call::Offer {
+                id: self.number(),
+                priority: self.of(&[0, 3, 255, 256, 257, u32::MAX]),
+                ontime: self.of(&[0, 400, 65_535, 65_536, u32::MAX]),
+                lifetime: self.number(),
+                stamp,
+            }),
+            _ => LogCall::On(call.clone()),
+        }
+    }
+
+    /// A place of a log, now and then one near the end of all numbers.
+    fn place(&mut self) -> usize {
+        match self.byte() {
+            byte @ 224.. => usize::MAX - usize::from(byte - 224),
+            byte => usize::from(byte % 64),
+        }
+    }
+}
+
+/// A call written at a place of a log, and any record read and written back.
+fn try_write(input: &mut Input, call: &Call) {
+    let call = input.log_call(call);
+    let (room, at) = (usize::from(input.byte() % 64), input.place());
+    hold_write(&call, room, at, &"fuzz");
+    let mut bytes = [(); RECORD_BYTES].map(|()| input.byte());
+    bytes[0] %= 4;
+    let call = read(&Record::from_bytes(&bytes)).expect("a kind of 0 to 3");
+    let mut back = [0xa5; RECORD_BYTES];
+    if archive_write(&call, &mut back, 0) == 0 {
+        let again = read(&Record::from_bytes(&back));
+        assert_eq!(again, Ok(call), "fuzz: {bytes:?} written back as {back:?}");
+    }
 }
 
 /// A call and a burst on a state with a flag that the reference has no word for.
@@ -227,6 +271,9 @@ fn follow(bytes: &[u8]) {
             continue;
         }
         let call = input.call(state.stamp);
+        if input.byte() % 4 == 3 {
+            try_write(&mut input, &call);
+        }
         if sound(&state) {
             state = hold(&state, &call, &"fuzz").0;
         } else {

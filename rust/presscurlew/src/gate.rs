@@ -121,7 +121,7 @@ impl Offer {
     /// (4), identifier (4), stamp (4), little-endian. [`Gate::offer_burst`] does it by itself.
     ///
     /// A priority above 255 is written as 255 and an on-time above 65,535 as 65,535, which is all that their bytes
-    /// hold.
+    /// hold. [`sys::write_offer`] writes the same bytes, and refuses these.
     #[inline]
     pub fn record(self, stamp: u32) -> [u8; sys::RECORD_BYTES] {
         // The record is refused just as the single offer is: no priority above 3 and no on-time above 4,000 is allowed
@@ -165,7 +165,8 @@ pub enum Refusal {
     BadKind = 10,
     /// The gate has accepted 10^15 offers.
     Spent = 11,
-    /// A burst has fewer answer bytes than records. A [`Gate`] never answers this; [`sys::burst`] may.
+    /// A burst has fewer answer bytes than records, or a log no 16 bytes at a place. A [`Gate`] never answers this;
+    /// [`sys::burst`] and the writers of [`sys`] may.
     NoRoom = 12,
     /// The bytes of a burst's records are not a multiple of 16. A [`Gate`] never answers this; [`sys::burst`] may.
     TornLog = 13,
@@ -238,7 +239,7 @@ impl Refusal {
             Refusal::NoState => "the state is not sound",
             Refusal::BadKind => "the record is no offer",
             Refusal::Spent => "10^15 offers were accepted already",
-            Refusal::NoRoom => "there are fewer answer bytes than records",
+            Refusal::NoRoom => "there is no room for the answers or the record",
             Refusal::TornLog => "the bytes are not a multiple of 16",
         }
     }
@@ -347,7 +348,15 @@ impl Gate {
     /// Each answer has those of [`Gate::offer`].
     pub fn offer_burst(&mut self, offers: &[(Offer, u32)]) -> Vec<Result<(), Refusal>> {
         let records: Vec<_> = offers.iter().map(|(o, stamp)| o.record(*stamp)).collect();
-        let mut answers = vec![0; offers.len()];
+        self.offer_records(&records)
+    }
+
+    /// A burst of records.
+    pub(crate) fn offer_records(
+        &mut self,
+        records: &[[u8; sys::RECORD_BYTES]],
+    ) -> Vec<Result<(), Refusal>> {
+        let mut answers = vec![0; records.len()];
         let turn = sys::burst(self.state, records.as_flattened(), &mut answers);
         // Whole records and a byte for each: such a burst is not refused.
         assert_eq!(turn.number, 0, "the archive refused a whole burst");

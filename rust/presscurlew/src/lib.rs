@@ -4,6 +4,7 @@
 //! say, and what they assume, stands in the repository's README.
 //!
 //! - [`Gate`]: the gate of one channel: samples, offers and polls
+//! - [`Recorder`]: the same, with a log of every call that `replay` plays
 //! - [`rules`]: the gate's rules on plain numbers
 //! - [`sys`]: the archives' calls as C sees them
 //!
@@ -13,7 +14,9 @@
 #![deny(unsafe_code)]
 
 pub mod gate;
+pub mod recorder;
 pub mod rules;
 pub mod sys;
 
 pub use gate::{Answer, Counts, Gate, Offer, Packet, Refusal, WhenFull};
+pub use recorder::{RecordError, Recorder};

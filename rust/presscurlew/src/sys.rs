@@ -5,6 +5,9 @@
 //! goes into the next one, unchanged and once: two calls on copies of one state are two gates. A burst is many offers
 //! in one call, as bytes.
 //!
+//! The writers ([`write_make`] to [`write_poll`]) write a call's record for the log, and leave the call itself to the
+//! host; [`crate::Recorder`] does both.
+//!
 //! The rules' answers have their refusal number first, 0 for none. A refusal's other numbers are 0.
 //!
 //! ```
@@ -226,7 +229,7 @@ pub struct BurstTurn {
     pub number: u32,
 }
 
-/// The bytes of a record of a burst.
+/// The bytes of a record, of a burst or of the log.
 pub const RECORD_BYTES: usize = 16;
 /// The kind of a record that is an offer, its first byte.
 pub const RECORD_OFFER: u8 = 2;
@@ -278,6 +281,71 @@ unsafe extern "C" {
 
     /// Whether a packet may go, and which.
     pub safe fn presscurlew_poll(state: State, stamp: u32) -> Turn;
+
+    /// Writes a make's record; [`write_make`] is the same of a slice.
+    ///
+    /// # Safety
+    ///
+    /// `log` points to `bytes` bytes that can be written; with `bytes` 0 it may be null.
+    pub fn presscurlew_write_make(
+        profile: u32,
+        when_full: u32,
+        stamp: u32,
+        log: *mut u8,
+        bytes: usize,
+        at: usize,
+    ) -> u32;
+
+    /// Writes the record of a sample by words; [`write_sample_words`] is the same of slices.
+    ///
+    /// # Safety
+    ///
+    /// `words` points to `count` words that can be read, and `log` to `bytes` bytes that can be written, none of which
+    /// is a byte of the words. With a count of 0 its pointer may be null.
+    pub fn presscurlew_write_sample_words(
+        words: *const u64,
+        count: usize,
+        stamp: u32,
+        log: *mut u8,
+        bytes: usize,
+        at: usize,
+    ) -> u32;
+
+    /// Writes the record of a sample by its busy count; [`write_sample_count`] is the same of a slice.
+    ///
+    /// # Safety
+    ///
+    /// `log` points to `bytes` bytes that can be written; with `bytes` 0 it may be null.
+    pub fn presscurlew_write_sample_count(
+        busy: u32,
+        stamp: u32,
+        log: *mut u8,
+        bytes: usize,
+        at: usize,
+    ) -> u32;
+
+    /// Writes an offer's record; [`write_offer`] is the same of a slice.
+    ///
+    /// # Safety
+    ///
+    /// `log` points to `bytes` bytes that can be written; with `bytes` 0 it may be null.
+    pub fn presscurlew_write_offer(
+        id: u32,
+        priority: u32,
+        ontime: u32,
+        lifetime: u32,
+        stamp: u32,
+        log: *mut u8,
+        bytes: usize,
+        at: usize,
+    ) -> u32;
+
+    /// Writes a poll's record; [`write_poll`] is the same of a slice.
+    ///
+    /// # Safety
+    ///
+    /// `log` points to `bytes` bytes that can be written; with `bytes` 0 it may be null.
+    pub fn presscurlew_write_poll(stamp: u32, log: *mut u8, bytes: usize, at: usize) -> u32;
 }
 
 /// A sample by words, of a slice.
@@ -309,6 +377,95 @@ pub fn burst(state: State, records: &[u8], answers: &mut [u8]) -> BurstTurn {
     unsafe { presscurlew_burst(state, records.as_ptr(), bytes, answers.as_mut_ptr(), room) }
 }
 
+/// Writes a make's record, 16 bytes at `at` of the log, and answers 0. Other bytes of the log keep what they had.
+///
+/// The answer is 1 if the profile is above 255 or `when_full` above 1, else 12 if there are no 16 bytes at `at`, and
+/// then nothing is written. A profile up to 255 is written, whatever it is worth.
+///
+/// ```
+/// use presscurlew::sys;
+///
+/// let mut log = [255; 20];
+/// assert_eq!(sys::write_make(3, sys::REFUSE_NEW, 0x0403_0201, &mut log, 4), 0);
+/// assert_eq!(log[..4], [255; 4]);
+/// assert_eq!(log[4..], [0, 3, 0, 0, 1, 0, 0, 0, 0, 0, 0, 0, 1, 2, 3, 4]);
+///
+/// assert_eq!(sys::write_make(256, sys::REFUSE_NEW, 0, &mut log, 5), 1);
+/// assert_eq!(sys::write_make(255, sys::REFUSE_NEW, 0, &mut log, 5), 12);
+/// ```
+#[allow(unsafe_code)]
+pub fn write_make(profile: u32, when_full: u32, stamp: u32, log: &mut [u8], at: usize) -> u32 {
+    // SAFETY: the slice has `log.len()` bytes.
+    unsafe { presscurlew_write_make(profile, when_full, stamp, log.as_mut_ptr(), log.len(), at) }
+}
+
+/// Writes the record of a sample by words, which is that of its busy count: 16 bytes at `at` of the log. The answer is
+/// 0, or 4 for a bad sample, else 12 if there are no 16 bytes at `at`; a refusal writes nothing.
+///
+/// ```
+/// use presscurlew::sys;
+///
+/// let mut words = [0; 16];
+/// words[3] = 0b1011;
+/// let [mut one, mut other] = [[255; 16]; 2];
+/// assert_eq!(sys::write_sample_words(&words, 77, &mut one, 0), 0);
+/// assert_eq!(sys::write_sample_count(3, 77, &mut other, 0), 0);
+/// assert_eq!(one, other);
+/// assert_eq!(sys::write_sample_words(&words[1..], 77, &mut one, 0), 4);
+/// ```
+#[allow(unsafe_code)]
+pub fn write_sample_words(words: &[u64], stamp: u32, log: &mut [u8], at: usize) -> u32 {
+    let (count, bytes) = (words.len(), log.len());
+    // SAFETY: the slices have so many words and bytes, and one that can be written lies apart from all others.
+    unsafe {
+        presscurlew_write_sample_words(words.as_ptr(), count, stamp, log.as_mut_ptr(), bytes, at)
+    }
+}
+
+/// Writes the record of a sample by its busy count, any at all: 16 bytes at `at` of the log. The answer is 0, or 12 if
+/// there are no 16 bytes at `at`; then nothing is written.
+#[allow(unsafe_code)]
+pub fn write_sample_count(busy: u32, stamp: u32, log: &mut [u8], at: usize) -> u32 {
+    // SAFETY: the slice has `log.len()` bytes.
+    unsafe { presscurlew_write_sample_count(busy, stamp, log.as_mut_ptr(), log.len(), at) }
+}
+
+/// Writes an offer's record: 16 bytes at `at` of the log. The answer is 0, or 5 if the priority is above 255, else 6 if
+/// the on-time is above 65,535, else 12 if there are no 16 bytes at `at`; a refusal writes nothing.
+///
+/// [`Offer::record`](crate::Offer::record) gives the same 16 bytes, and never refuses: it is for bursts, in which each
+/// offer has its place.
+///
+/// ```
+/// use presscurlew::{sys, Offer};
+///
+/// let mut log = [255; 16];
+/// let offer = Offer { id: 7, priority: 200, ontime: 65_535, lifetime: 0 };
+/// assert_eq!(sys::write_offer(offer, 77, &mut log, 0), 0);
+/// assert_eq!(log, offer.record(77));
+/// assert_eq!(sys::write_offer(Offer { ontime: 65_536, ..offer }, 77, &mut log, 0), 6);
+/// ```
+#[allow(unsafe_code)]
+pub fn write_offer(offer: crate::Offer, stamp: u32, log: &mut [u8], at: usize) -> u32 {
+    let crate::Offer {
+        id,
+        priority,
+        ontime,
+        lifetime,
+    } = offer;
+    let (pointer, bytes) = (log.as_mut_ptr(), log.len());
+    // SAFETY: the slice has so many bytes.
+    unsafe { presscurlew_write_offer(id, priority, ontime, lifetime, stamp, pointer, bytes, at) }
+}
+
+/// Writes a poll's record: 16 bytes at `at` of the log. The answer is 0, or 12 if there are no 16 bytes at `at`; then
+/// nothing is written.
+#[allow(unsafe_code)]
+pub fn write_poll(stamp: u32, log: &mut [u8], at: usize) -> u32 {
+    // SAFETY: the slice has `log.len()` bytes.
+    unsafe { presscurlew_write_poll(stamp, log.as_mut_ptr(), log.len(), at) }
+}
+
 #[cfg(test)]
 #[allow(unsafe_code)]
 mod tests {
@@ -338,6 +495,24 @@ mod tests {
             let turn = unsafe { presscurlew_burst(fresh, records, bytes, ptr::null_mut(), 0) };
             let state = fresh;
             assert_eq!(turn, BurstTurn { state, number });
+        }
+    }
+    #[test]
+    fn no_log_and_no_words_may_be_null_pointers() {
+        let none = ptr::null_mut();
+        for at in [0, 1, usize::MAX - 15, usize::MAX] {
+            // SAFETY: with counts of 0 nothing is read, and nothing written.
+            let numbers = unsafe {
+                [
+                    presscurlew_write_make(1, 0, 0, none, 0, at),
+                    presscurlew_write_sample_words(ptr::null(), 0, 0, none, 0, at),
+                    presscurlew_write_sample_words([0; 16].as_ptr(), 16, 0, none, 0, at),
+                    presscurlew_write_sample_count(0, 0, none, 0, at),
+                    presscurlew_write_offer(0, 0, 0, 0, 0, none, 0, at),
+                    presscurlew_write_poll(0, none, 0, at),
+                ]
+            };
+            assert_eq!(numbers, [12, 4, 12, 12, 12, 12]);
         }
     }
 }

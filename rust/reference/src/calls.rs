@@ -26,7 +26,7 @@ pub const NO_STATE: u32 = 9;
 pub const BAD_KIND: u32 = 10;
 /// W-201: an offer when 10^15 were accepted already.
 pub const SPENT: u32 = 11;
-/// W-204: fewer answer bytes than records.
+/// W-204: fewer answer bytes than records. W-206: a place without 16 bytes.
 pub const NO_ROOM: u32 = 12;
 /// W-204: record bytes that are not a multiple of 16.
 pub const TORN_LOG: u32 = 13;

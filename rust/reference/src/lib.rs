@@ -1,7 +1,7 @@
 //! The second, independent program of the gate.
 //!
-//! It is document 01 written out plainly, with requests W-201, W-202, W-204 and
-//! W-205 of document 02, to be read beside those papers and run beside the
+//! It is document 01 written out plainly, with requests W-201, W-202 and W-204
+//! to W-206 of document 02, to be read beside those papers and run beside the
 //! product. It shares no code and no table with the product.
 //!
 //! - [`rules`]: the rules on plain numbers, and each profile's constants
@@ -11,6 +11,7 @@
 //! - [`gate`]: make, sample, offer and poll
 //! - [`book`]: the run's book, and the check of demand 3 over a run
 //! - [`log`]: the call log and its program
+//! - [`writer`]: calls written to a log
 //! - [`burst`]: many offers in one call
 //! - [`rng`]: a small number generator for tests
 //! - [`miscounts`]: counts that don't add up, for tests
@@ -31,3 +32,4 @@ pub mod miscounts;
 pub mod rng;
 pub mod rules;
 pub mod state;
+pub mod writer;

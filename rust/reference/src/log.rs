@@ -3,7 +3,7 @@
 use std::io::{self, ErrorKind, Read, Write};
 
 use crate::calls::BAD_KIND;
-use crate::gate::{self, Answer};
+use crate::gate::{self, Answer, Call};
 use crate::state::State;
 
 /// The bytes of a record.
@@ -42,7 +42,7 @@ impl Record {
         }
     }
 
-    /// The 16 bytes of the fields, for those who make logs to test with.
+    /// The 16 bytes of the fields.
     pub fn to_bytes(&self) -> [u8; RECORD_BYTES] {
         let mut bytes = [0; RECORD_BYTES];
         bytes[0] = self.kind;
@@ -55,23 +55,62 @@ impl Record {
     }
 }
 
-/// One step of the program: a record on a state.
-pub fn step(state: State, record: &Record) -> (State, Answer) {
+/// What a log can say: a make, or a call on the state.
+#[derive(Clone, Debug, PartialEq, Eq)]
+pub enum LogCall {
+    /// A make.
+    Make {
+        /// The profile.
+        profile: u32,
+        /// The old way: 1 for yes and 0 for no.
+        oldway: u32,
+        /// The radio's count.
+        stamp: u32,
+    },
+    /// A call on the state.
+    On(Call),
+}
+
+/// The call of a record, whatever its numbers are worth; fields that the kind
+/// does not use are ignored. A kind above 3 is none, and gets 10.
+pub fn read(record: &Record) -> Result<LogCall, u32> {
+    let Record {
+        lifetime,
+        id,
+        stamp,
+        ..
+    } = *record;
     let priority = u32::from(record.priority);
     let ontime = u32::from(record.ontime);
     match record.kind {
-        0 => gate::make(priority, record.lifetime, record.stamp),
-        1 => gate::sample_count(state, record.id, record.stamp),
-        2 => gate::offer(
-            state,
-            record.id,
+        0 => Ok(LogCall::Make {
+            profile: priority,
+            oldway: lifetime,
+            stamp,
+        }),
+        1 => Ok(LogCall::On(Call::SampleCount { busy: id, stamp })),
+        2 => Ok(LogCall::On(Call::Offer {
+            id,
             priority,
             ontime,
-            record.lifetime,
-            record.stamp,
-        ),
-        3 => gate::poll(state, record.stamp),
-        _ => (state, Answer::Refused(BAD_KIND)),
+            lifetime,
+            stamp,
+        })),
+        3 => Ok(LogCall::On(Call::Poll { stamp })),
+        _ => Err(BAD_KIND),
+    }
+}
+
+/// One step of the program: a record on a state.
+pub fn step(state: State, record: &Record) -> (State, Answer) {
+    match read(record) {
+        Ok(LogCall::Make {
+            profile,
+            oldway,
+            stamp,
+        }) => gate::make(profile, oldway, stamp),
+        Ok(LogCall::On(call)) => gate::call(state, &call),
+        Err(number) => (state, Answer::Refused(number)),
     }
 }
 

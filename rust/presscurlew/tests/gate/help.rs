@@ -2,15 +2,17 @@
 
 use std::fmt::Display;
 
-use presscurlew::{sys, WhenFull};
+use presscurlew::{sys, Offer, WhenFull};
 use reference::burst;
 use reference::gate;
 use reference::log::{Record, RECORD_BYTES};
 use reference::rng::Rng;
 use reference::rules;
 use reference::state::{Counts, Packet, Queue, State};
+use reference::writer;
 
 pub use reference::gate::{Answer, Call};
+pub use reference::log::LogCall;
 
 pub const PROFILES: [u32; 3] = [1, 2, 3];
 /// What a gate does when a queue is full.
@@ -313,6 +315,58 @@ pub fn hold_no_state_burst(state: &sys::State, stamp: u32, origin: &dyn Display)
         answers: vec![9, 10, 10, 9, 10, 10, 9, BLANK],
     };
     assert_eq!(archive_burst(*state, &bytes, 8), expected, "{origin}");
+}
+
+/// A call written by the archive. Words that it is lent stay as they are.
+pub fn archive_write(call: &LogCall, log: &mut [u8], at: usize) -> u32 {
+    match *call {
+        LogCall::Make {
+            profile,
+            oldway,
+            stamp,
+        } => sys::write_make(profile, oldway, stamp, log, at),
+        LogCall::On(Call::SampleWords { ref words, stamp }) => {
+            let lent = words.clone();
+            let number = sys::write_sample_words(&lent, stamp, log, at);
+            assert_eq!(lent, *words, "lent words were written to");
+            number
+        }
+        LogCall::On(Call::SampleCount { busy, stamp }) => {
+            sys::write_sample_count(busy, stamp, log, at)
+        }
+        LogCall::On(Call::Offer {
+            id,
+            priority,
+            ontime,
+            lifetime,
+            stamp,
+        }) => {
+            let offer = Offer {
+                id,
+                priority,
+                ontime,
+                lifetime,
+            };
+            sys::write_offer(offer, stamp, log, at)
+        }
+        LogCall::On(Call::Poll { stamp }) => sys::write_poll(stamp, log, at),
+    }
+}
+
+/// Holds a call that is written at a place of a log of so many bytes to the reference: the number, every byte of the
+/// log and those around it. Where the log starts in memory differs with its length.
+pub fn hold_write(call: &LogCall, room: usize, at: usize, origin: &dyn Display) -> u32 {
+    let fence = 16 + room % 17;
+    // No byte is as its neighbours, nor as most that are written.
+    let mut log: Vec<u8> = (0..fence + room + fence)
+        .map(|k| (k * 37 + 11) as u8 | 0x80)
+        .collect();
+    let mut expected = log.clone();
+    let due = writer::write(call, &mut expected[fence..fence + room], at);
+    let number = archive_write(call, &mut log[fence..fence + room], at);
+    assert_eq!(number, due, "{origin}: {call:?} at {at} of {room} bytes");
+    assert_eq!(log, expected, "{origin}: {call:?} at {at} of {room} bytes");
+    number
 }
 
 /// Sixteen words with the first `busy` probes busy.

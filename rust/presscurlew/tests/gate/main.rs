@@ -9,6 +9,7 @@
 //! - `samples`: the busy count of words
 //! - `sample_log`: the requirement's own log
 //! - `safe`: what `Gate` makes of the archive's calls
+//! - `writer`: calls written to a log
 //! - `layout`: sizes and offsets, the same as C sees
 
 mod broken_states;
@@ -22,3 +23,4 @@ mod safe;
 mod sample_log;
 mod samples;
 mod sound_states;
+mod writer;

@@ -16,3 +16,4 @@ mod runs;
 mod samples;
 mod slips;
 mod soundness;
+mod writer;

@@ -1,0 +1,58 @@
+-- Two good samples by words with the same count: the record goes by the count alone, and so does the gate's answer.
+use Prim.Native.Nat.{ℕ}
+use mathlib.Core.Path.{_≡_, sym, ap, ap₂, _∙_}
+use mathlib.Core.Bool.{Bool, true, not}
+use mathlib.Core.List.{List, _∷_}
+use lib.ListN.{length}
+use Rattle.rules.specs.Refusals.{check, firstOf}
+use Rattle.rules.specs.Samples.{probes, busyOf, goodWords, sampleOf}
+use Rattle.model.specs.Calls.{Call, words, count}
+use Rattle.gate.specs.declared.State.{State}
+use Rattle.gate.specs.declared.Outcome.{Outcome}
+use Rattle.gate.specs.Layout.{callOn}
+use Rattle.gate.specs.Runs.{stateAfter, eventsOn}
+use Rattle.gate.proofs.Sampling.{words-busy}
+use Rattle.calllog.specs.declared.Record.{Record}
+use Rattle.calllog.specs.Writing.{sampleRecord, recordOf, argumentChecks, placeChecks, writeNumber, unlessRefused, logAfter}
+use Rattle.calllog.specs.Writing.{ShareRecord, answersOn, SameAfter, CountAnswersAlike, AlikeAnswerAlike}
+
+-- a good sample by words is answered as the one by its count
+pub count-for-words :
+    (s : State) (stamp : ℕ) (ws : List ℕ) → goodWords ws ≡ true
+    → callOn s (count stamp (busyOf ws probes)) ≡ callOn s (words stamp ws)
+unfolding sampleOf
+count-for-words s stamp ws g = words-busy s stamp ws (busyOf ws probes) (rw g)
+
+-- two good samples by words with one count
+pub share-record : ShareRecord
+unfolding recordOf writeNumber argumentChecks logAfter
+share-record log at stamp ws ws′ same =
+    let one : goodWords ws ≡ goodWords ws′ = same .good ∙ sym (same .good′) in
+    let fields = ap (sampleRecord stamp) (same .busy) in
+    let answer =
+    ap (λ (g : Bool). firstOf (check 4 (not g) ∷ placeChecks (length log) at)) one in
+    record {
+      fields = fields;
+      answer = answer;
+      bytes = ap₂ (λ (n : ℕ) (rec : Record). unlessRefused n log at rec) answer fields;
+    }
+
+-- calls that are answered alike lead on alike
+alike-after : (s : State) (a b : Call) (behind : List Call) → callOn s a ≡ callOn s b → SameAfter s a b behind
+unfolding stateAfter eventsOn
+alike-after s a b behind e =
+    record {
+      answers = ap (λ (o : Outcome). o .answer ∷ answersOn (o .state) behind) e;
+      state = ap (λ (o : Outcome). stateAfter (o .state) behind) e;
+    }
+
+pub count-answers-alike : CountAnswersAlike
+count-answers-alike s stamp ws g behind =
+    alike-after s (words stamp ws) (count stamp (busyOf ws probes)) behind (sym (count-for-words s stamp ws g))
+
+pub alike-answer-alike : AlikeAnswerAlike
+alike-answer-alike s stamp ws ws′ same behind =
+    alike-after s (words stamp ws) (words stamp ws′) behind
+    (sym (count-for-words s stamp ws (same .good))
+    ∙ ap (λ (busy : ℕ). callOn s (count stamp busy)) (same .busy)
+    ∙ count-for-words s stamp ws′ (same .good′))

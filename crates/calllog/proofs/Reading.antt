@@ -1,0 +1,227 @@
+-- Reading back: 16 bytes at a place are read as the record that was written there, and a call's record asks that call, a
+-- sample by words the one by its count; so the program answers a log of records as the gate answered the calls.
+use Prim.Native.Nat.{ℕ, _+_, _*_, _/_, _%_, _≤_, _<_}
+use mathlib.Core.Path.{_≡_, refl, sym, ap, ap₂, _∙_}
+use mathlib.Core.Bool.{Bool, true, false, cond}
+use mathlib.Core.List.{List, [], _∷_, _++_, append-assoc}
+use native.Mathlib.Nat.{zero-add}
+use native.Mathlib.Omega.{arith}
+use borrow.Author.Tests.{eq-eqb, leb-false, ltb-false, not-false}
+use lib.Dec.{eqb}
+use lib.ListN.{length, getD, take, drop, length-append, List·getD-append}
+use lib.Seq.{length-take-le, getD-append-add, take-append-seam, drop-append-add}
+use Rattle.rules.specs.Refusals.{Check, firstOf, NoneHolds}
+use Rattle.rules.specs.Samples.{probes}
+use Rattle.rules.proofs.Cases.{clash}
+use Rattle.rules.proofs.Probes.{busy-le}
+use Rattle.rules.proofs.Refusals.{Numbered, exact, none-of, of-none, first-append}
+use Rattle.model.specs.Calls.{words, count, offer, poll}
+use Rattle.gate.specs.declared.State.{State}
+use Rattle.gate.specs.declared.Outcome.{Outcome}
+use Rattle.calllog.specs.declared.Record.{Record}
+use Rattle.calllog.specs.Records.{recordBytes, byteAt, twoAt, fourAt, recordAt, Asked, makes, calls, unknown, askedBy}
+use Rattle.calllog.specs.Steps.{answered, stepOn}
+use Rattle.calllog.specs.Lines.{ascii, line, lineOf, lastLine}
+use Rattle.calllog.specs.Buffers.{written}
+use Rattle.calllog.specs.Text.{reachedFrom, linesFrom, outputFrom}
+use Rattle.calllog.specs.Writing.{littleEndian, bytesOf, recordOf, argumentChecks, placeChecks, writeChecks}
+use Rattle.calllog.specs.Writing.{writeNumber, logAfter, WritesExactly, Narrow, counted, ReadsBack, PlaysBack}
+use Rattle.calllog.specs.Writing.{WritesBehind, logOf, AllWritten, answerLines, LogPlaysBack}
+use Rattle.calllog.proofs.Pieces.{same-record, pieces}
+use Rattle.calllog.proofs.Writing.{numbered, place-passed, passed, room}
+use Rattle.calllog.proofs.Alike.{count-for-words}
+
+-- a record whose numbers fit its fields
+pub record Fitting (rec : Record) : Type 0 where
+  pub kind : rec .kind < 256
+  pub priority : rec .priority < 256
+  pub ontime : rec .ontime < 65536
+  pub lifetime : rec .lifetime < 4294967296
+  pub id : rec .id < 4294967296
+  pub stamp : rec .stamp < 4294967296
+
+length-record : (rec : Record) → length (bytesOf rec) ≡ 16
+unfolding bytesOf littleEndian
+length-record rec = refl
+
+-- its bytes are read as itself
+read-bytes : (rec : Record) → Fitting rec → recordAt (bytesOf rec) 0 ≡ rec
+unfolding recordAt twoAt fourAt bytesOf littleEndian
+read-bytes rec f =
+    let two : (n : ℕ) → n < 65536 → n % 256 + 256 * (n / 256 % 256) ≡ n = λ n h. omega arith in
+    let four : (n : ℕ) → n < 4294967296
+    → n % 256 + 256 * (n / 256 % 256) + 65536 * (n / 256 / 256 % 256) + 16777216 * (n / 256 / 256 / 256 % 256) ≡ n =
+    λ n h. omega arith in
+    let kind : rec .kind % 256 ≡ rec .kind = omega arith in
+    let priority : rec .priority % 256 ≡ rec .priority = omega arith in
+    simp (
+      four (rec .lifetime) (f .lifetime),
+      four (rec .id) (f .id),
+      four (rec .stamp) (f .stamp),
+      two (rec .ontime) (f .ontime),
+      kind,
+      priority,
+    )
+
+-- what is read at a place is what was written there
+module _ (log : List ℕ) (at : ℕ) (text : List ℕ) (h : at + recordBytes ≤ length log) (e : length text ≡ recordBytes) where
+  byte-written : (k : ℕ) → k < recordBytes → byteAt (written log at text) (at + k) ≡ byteAt text k
+  byte-written k l =
+      let front : length (take at log) ≡ at = length-take-le at log (omega arith) in
+      let both : at + k < length (take at log ++ text) = omega (arith, length-append (take at log) text) in
+      List·getD-append (take at log ++ text) (drop (at + length text) log) 0 (at + k) both
+      ∙ ap (λ (n : ℕ). getD (take at log ++ text) (n + k) 0) (sym front)
+      ∙ getD-append-add (take at log) text k 0
+
+  pub read-written : recordAt (written log at text) at ≡ recordAt text 0
+  read-written =
+      same-record (written log at text) text at 0
+      (λ k l. byte-written k l ∙ ap (byteAt text) (sym (zero-add k)))
+
+pub record-written :
+    (log : List ℕ) (at : ℕ) (rec : Record) → at + recordBytes ≤ length log → Fitting rec
+    → recordAt (written log at (bytesOf rec)) at ≡ rec
+record-written log at rec h f = read-written log at (bytesOf rec) h (length-record rec) ∙ read-bytes rec f
+
+-- a write that is not refused: no row of its arguments holds, the place has room, and the record is put
+pub table : (log : List ℕ) (at : ℕ) (a : Asked)
+    → writeNumber log at a
+    ≡ cond (eqb (firstOf (argumentChecks a)) 0) (firstOf (placeChecks (length log) at)) (firstOf (argumentChecks a))
+unfolding writeNumber
+table log at a = first-append (argumentChecks a) (placeChecks (length log) at) (numbered a)
+
+module _ (log : List ℕ) (at : ℕ) (a : Asked) (z : writeNumber log at a ≡ 0) where
+  pub none-held : NoneHolds (argumentChecks a)
+  none-held =
+      of-none (argumentChecks a) (numbered a)
+      (passed (firstOf (argumentChecks a)) (writeNumber log at a) (firstOf (placeChecks (length log) at)) (table log at a) z)
+
+  pub has-room : at + recordBytes ≤ length log
+  has-room = room (length log) at (firstOf (argumentChecks a)) (writeNumber log at a) (table log at a) z
+
+  pub put : logAfter log at a ≡ written log at (bytesOf (recordOf a))
+  unfolding logAfter
+  put = ap (λ (u : Bool). cond u (written log at (bytesOf (recordOf a))) log) (eq-eqb (writeNumber log at a) 0 z)
+
+-- then its numbers fit
+pub fits : (a : Asked) → Narrow a → NoneHolds (argumentChecks a) → Fitting (recordOf a)
+unfolding argumentChecks recordOf
+fits (makes m) n h =
+    record {
+      kind = omega arith;
+      priority = omega (arith, leb-false 256 (m .profile) (h .0));
+      ontime = omega arith;
+      lifetime = omega (arith, ltb-false 1 (m .oldway) (h .1 .0));
+      id = omega arith;
+      stamp = omega arith;
+    }
+fits (calls (words stamp ws)) n h =
+    record {
+      kind = omega arith;
+      priority = omega arith;
+      ontime = omega arith;
+      lifetime = omega arith;
+      id = omega (arith, busy-le ws probes);
+      stamp = omega (arith, n .0);
+    }
+fits (calls (count stamp busy)) n h =
+    record {
+      kind = omega arith;
+      priority = omega arith;
+      ontime = omega arith;
+      lifetime = omega arith;
+      id = omega (arith, leb-false 4294967296 busy (h .0));
+      stamp = omega (arith, n .0);
+    }
+fits (calls (offer stamp o)) n h =
+    record {
+      kind = omega arith;
+      priority = omega (arith, leb-false 256 (o .priority) (h .0));
+      ontime = omega (arith, leb-false 65536 (o .ontime) (h .1 .0));
+      lifetime = omega (arith, leb-false 4294967296 (o .lifetime) (h .1 .1 .0));
+      id = omega (arith, n .1);
+      stamp = omega (arith, n .0);
+    }
+fits (calls (poll stamp)) n h =
+    record {
+      kind = omega arith;
+      priority = omega arith;
+      ontime = omega arith;
+      lifetime = omega arith;
+      id = omega arith;
+      stamp = omega (arith, n .0);
+    }
+fits unknown n h = clash (let e : true ≡ false = h .0 in cc)
+
+-- a call's record asks it
+asks : (a : Asked) → askedBy (recordOf a) ≡ counted a
+unfolding askedBy recordOf
+asks (makes m) = refl
+asks (calls (words stamp ws)) = refl
+asks (calls (count stamp busy)) = refl
+asks (calls (offer stamp o)) = refl
+asks (calls (poll stamp)) = refl
+asks unknown = refl
+
+-- the record read where a call was written is the call's
+read-after :
+    (log : List ℕ) (at : ℕ) (a : Asked) → Narrow a → writeNumber log at a ≡ 0 → recordAt (logAfter log at a) at ≡ recordOf a
+read-after log at a n z =
+    ap (λ (l : List ℕ). recordAt l at) (put log at a z)
+    ∙ record-written log at (recordOf a) (has-room log at a z) (fits a n (none-held log at a z))
+
+pub reads-back : ReadsBack
+reads-back log at a n z = ap askedBy (read-after log at a n z) ∙ asks a
+
+same-answer : (s : State) (a : Asked) → NoneHolds (argumentChecks a) → answered s (counted a) ≡ answered s a
+unfolding argumentChecks
+same-answer s (makes m) h = refl
+same-answer s (calls (words stamp ws)) h = count-for-words s stamp ws (not-false _ (h .0))
+same-answer s (calls (count stamp busy)) h = refl
+same-answer s (calls (offer stamp o)) h = refl
+same-answer s (calls (poll stamp)) h = refl
+same-answer s unknown h = refl
+
+-- so a record that was written is answered as its call
+step-same : (s : State) (a : Asked) (rec : Record) → rec ≡ recordOf a → NoneHolds (argumentChecks a) → stepOn s rec ≡ answered s a
+unfolding stepOn
+step-same s a rec e h = ap (λ (r : Record). answered s (askedBy r)) e ∙ ap (answered s) (asks a) ∙ same-answer s a h
+
+pub plays-back : PlaysBack
+plays-back s log at a n z =
+    step-same s a (recordAt (logAfter log at a) at) (read-after log at a n z) (none-held log at a z)
+
+pub writes-behind : WritesBehind
+unfolding logAfter
+writes-behind done room a h r =
+    let z : writeNumber (done ++ room) (length done) a ≡ 0 =
+    table (done ++ room) (length done) a
+    ∙ ap (λ (k : ℕ). cond (eqb k 0) (firstOf (placeChecks (length (done ++ room)) (length done))) k)
+    (none-of (argumentChecks a) h)
+    ∙ place-passed (length (done ++ room)) (length done) (omega (arith, length-append done room)) in
+    put (done ++ room) (length done) a z
+    ∙ ap₂ (λ (x y : List ℕ). x ++ bytesOf (recordOf a) ++ y)
+    (take-append-seam done room)
+    (ap (λ (n : ℕ). drop (length done + n) (done ++ room)) (length-record (recordOf a)) ∙ drop-append-add done room 16)
+
+-- record by record, each in a piece of its own
+pub log-plays-back : LogPlaysBack
+unfolding logOf AllWritten answerLines outputFrom reachedFrom linesFrom lastLine
+log-plays-back s [] h = refl
+log-plays-back s (a ∷ more) h =
+    let bytes = bytesOf (recordOf a) in
+    let step : stepOn s (recordAt bytes 0) ≡ answered s a =
+    step-same s a (recordAt bytes 0) (read-bytes (recordOf a) (fits a (h .0) (h .1))) (h .1) in
+    pieces s bytes (logOf more) 1 (length-record (recordOf a))
+    ∙ ap (λ (o : Outcome). lineOf (o .answer) ++ outputFrom (o .state) (logOf more)) step
+    ∙ ap (λ (l : List ℕ). lineOf (answered s a .answer) ++ l) (log-plays-back (answered s a .state) more (h .2))
+    ∙ sym (append-assoc (lineOf (answered s a .answer)) (answerLines (answered s a .state) more) (line (ascii "END")))
+
+numbered-append : (xs ys : List Check) → Numbered xs → Numbered ys → Numbered (xs ++ ys)
+numbered-append [] ys m n = n
+numbered-append (x ∷ xs) ys m n = (m .0, numbered-append xs ys (m .1) n)
+
+pub writes-exactly : WritesExactly
+writes-exactly log at a =
+    exact (writeChecks log at a)
+    (numbered-append (argumentChecks a) (placeChecks (length log) at) (numbered a) (omega arith, tt))

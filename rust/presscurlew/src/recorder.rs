@@ -1,0 +1,262 @@
+//! A gate that records its own calls, so that the run can be played and judged afterwards.
+//!
+//! ```
+//! use presscurlew::{Answer, Offer, RecordError, Recorder, WhenFull};
+//!
+//! let mut log = Vec::new(); // or a File
+//! let mut gate = Recorder::new(2, WhenFull::DropOldest, 1_000, &mut log)?;
+//! gate.offer(Offer { id: 7, priority: 1, ontime: 400, lifetime: 60_000 }, 1_100)?;
+//! assert!(matches!(gate.poll(1_200)?, Answer::Sent(packet) if packet.id == 7));
+//!
+//! // A call that is refused is in the log too, and is refused again when the log is played.
+//! let refused = gate.poll(1_199);
+//! assert!(matches!(refused, Err(RecordError::Refused(refusal)) if refusal.number() == 2));
+//!
+//! // 16 bytes a call: make, offer, poll, poll.
+//! let kinds: Vec<u8> = log.chunks(16).map(|record| record[0]).collect();
+//! assert_eq!(kinds, [0, 2, 3, 3]);
+//! # Ok::<(), RecordError>(())
+//! ```
+
+use std::error::Error;
+use std::fmt;
+use std::io::{self, Write};
+
+use crate::gate::{Answer, Gate, Offer, Refusal, WhenFull};
+use crate::sys::{self, RECORD_BYTES};
+
+/// A [`Gate`] that writes each call to a log before it makes it.
+///
+/// **The log.** It starts with the make and has a record of 16 bytes for every call that was made, refused ones
+/// included, in their order; a burst has one for each offer. The program `replay` plays it and writes a line for each
+/// record: the answers that this host got.
+///
+/// **Record first, then call.** The record is handed to the sink, the sink is flushed, and only then the call is made.
+/// So the log of a host that crashed has the last call in it, and nothing goes on air that is not in the log. What
+/// `flush` is worth is the sink's own matter: bytes in a [`File`](std::fs::File) outlive the process, but not a power
+/// cut; a sink that has to survive one syncs in its `flush`. A [`BufWriter`](io::BufWriter) gains nothing here.
+///
+/// **A sink that fails.** The call is then not made ([`RecordError::Log`]). Nobody knows how much of the record the sink
+/// took, and a record behind it could be out of place. So the recorder ends there: each further call answers
+/// [`RecordError::Log`] and does nothing. Of what is in the log, only the last call, or some of the last burst, may not
+/// have been made. A host that has to go on without a log takes the gate out ([`Recorder::into_parts`]).
+///
+/// **Numbers that do not fit a record.** The gate refuses all of them, in any state. The record then has a number that
+/// fits and that the gate refuses in the same way: profile 255, priority 255, on-time 65,535, and for words that are no
+/// sample the busy count 4,294,967,295. Played, the record gets the answer that the call got.
+#[derive(Debug)]
+pub struct Recorder<W> {
+    gate: Gate,
+    log: Log<W>,
+}
+
+/// Why a recorder's call has no answer of the gate, or has a refusal.
+#[derive(Debug)]
+pub enum RecordError {
+    /// The call is in the log, and the gate refused it.
+    Refused(Refusal),
+    /// The log could not be written, now or earlier. The call was not made.
+    Log(io::Error),
+}
+
+impl fmt::Display for RecordError {
+    fn fmt(&self, f: &mut fmt::Formatter<'_>) -> fmt::Result {
+        match self {
+            RecordError::Refused(refusal) => refusal.fmt(f),
+            RecordError::Log(error) => write!(f, "the call log: {error}"),
+        }
+    }
+}
+
+impl Error for RecordError {
+    fn source(&self) -> Option<&(dyn Error + 'static)> {
+        match self {
+            RecordError::Refused(refusal) => Some(refusal),
+            RecordError::Log(error) => Some(error),
+        }
+    }
+}
+
+impl From<Refusal> for RecordError {
+    fn from(refusal: Refusal) -> RecordError {
+        RecordError::Refused(refusal)
+    }
+}
+
+impl From<io::Error> for RecordError {
+    fn from(error: io::Error) -> RecordError {
+        RecordError::Log(error)
+    }
+}
+
+/// The sink, and whether it has failed.
+#[derive(Debug)]
+struct Log<W> {
+    sink: W,
+    failed: bool,
+}
+
+impl<W: Write> Log<W> {
+    /// Hands whole records over, and flushes.
+    fn put(&mut self, records: &[u8]) -> io::Result<()> {
+        if self.failed {
+            return Err(io::Error::other("it failed before, and has ended"));
+        }
+        let done = self.sink.write_all(records);
+        let done = done.and_then(|()| self.sink.flush());
+        self.failed = done.is_err();
+        done
+    }
+}
+
+/// The record that a writer makes. Its number is 0: all that it is given fits.
+fn record(write: impl FnOnce(&mut [u8]) -> u32) -> [u8; RECORD_BYTES] {
+    let mut record = [0; RECORD_BYTES];
+    let number = write(&mut record);
+    assert_eq!(number, 0, "the archive refused to write a record that fits");
+    record
+}
+
+/// The record of a make. A profile that does not fit is written as 255, which gets 1 as well.
+fn make_record(profile: u32, when_full: WhenFull, stamp: u32) -> [u8; RECORD_BYTES] {
+    let profile = profile.min(u8::MAX.into());
+    record(|log| sys::write_make(profile, when_full as u32, stamp, log, 0))
+}
+
+fn count_record(busy: u32, stamp: u32) -> [u8; RECORD_BYTES] {
+    record(|log| sys::write_sample_count(busy, stamp, log, 0))
+}
+
+/// The record of a sample by words. A bad one has no busy count; it is written with one that gets 4 as well.
+fn words_record(words: &[u64], stamp: u32) -> [u8; RECORD_BYTES] {
+    let mut record = [0; RECORD_BYTES];
+    match sys::write_sample_words(words, stamp, &mut record, 0) {
+        0 => record,
+        _ => count_record(u32::MAX, stamp),
+    }
+}
+
+/// The record of an offer. What does not fit is written as the most that does, which gets 5 or 6 as well.
+fn offer_record(offer: Offer, stamp: u32) -> [u8; RECORD_BYTES] {
+    let fitting = Offer {
+        priority: offer.priority.min(u8::MAX.into()),
+        ontime: offer.ontime.min(u16::MAX.into()),
+        ..offer
+    };
+    record(|log| sys::write_offer(fitting, stamp, log, 0))
+}
+
+impl<W: Write> Recorder<W> {
+    /// A fresh gate ([`Gate::new`]) that records to the sink, the make first. A sink that the host wants back if the
+    /// make is refused is lent: `&mut W` is a sink too.
+    ///
+    /// # Errors
+    ///
+    /// [`RecordError::Log`], or [`RecordError::Refused`] with [`Refusal::BadProfile`].
+    pub fn new(
+        profile: u32,
+        when_full: WhenFull,
+        stamp: u32,
+        sink: W,
+    ) -> Result<Recorder<W>, RecordError> {
+        let failed = false;
+        let mut log = Log { sink, failed };
+        log.put(&make_record(profile, when_full, stamp))?;
+        let gate = Gate::new(profile, when_full, stamp)?;
+        Ok(Recorder { gate, log })
+    }
+
+    /// Records a sample by words, by its busy count, and then is [`Gate::sample_words`].
+    ///
+    /// # Errors
+    ///
+    /// [`RecordError::Log`], or the refusals of the gate.
+    pub fn sample_words(&mut self, words: &[u64], stamp: u32) -> Result<(), RecordError> {
+        self.log.put(&words_record(words, stamp))?;
+        Ok(self.gate.sample_words(words, stamp)?)
+    }
+
+    /// Records a sample by its busy count, and then is [`Gate::sample_count`].
+    ///
+    /// # Errors
+    ///
+    /// [`RecordError::Log`], or the refusals of the gate.
+    pub fn sample_count(&mut self, busy: u32, stamp: u32) -> Result<(), RecordError> {
+        self.log.put(&count_record(busy, stamp))?;
+        Ok(self.gate.sample_count(busy, stamp)?)
+    }
+
+    /// Records an offer, and then is [`Gate::offer`].
+    ///
+    /// # Errors
+    ///
+    /// [`RecordError::Log`], or the refusals of the gate.
+    pub fn offer(&mut self, offer: Offer, stamp: u32) -> Result<(), RecordError> {
+        self.log.put(&offer_record(offer, stamp))?;
+        Ok(self.gate.offer(offer, stamp)?)
+    }
+
+    /// Records a burst, and then is [`Gate::offer_burst`]. The log gets the bytes that the burst itself is made of, all
+    /// before the call.
+    ///
+    /// ```
+    /// use presscurlew::{Offer, Recorder, Refusal, WhenFull};
+    ///
+    /// let mut log = Vec::new();
+    /// let mut gate = Recorder::new(2, WhenFull::DropOldest, 0, &mut log)?;
+    /// let warning = Offer { id: 1, priority: 0, ontime: 400, lifetime: 100_000 };
+    /// let too_long = Offer { id: 2, ontime: 501, ..warning };
+    /// let answers = gate.offer_burst(&[(warning, 10), (too_long, 20)])?;
+    /// assert_eq!(answers, [Ok(()), Err(Refusal::BadOnTime)]);
+    /// assert_eq!(log[16..], [warning.record(10), too_long.record(20)].concat());
+    /// # Ok::<(), presscurlew::RecordError>(())
+    /// ```
+    ///
+    /// # Errors
+    ///
+    /// That of the sink, and then no offer was made. What the gate refuses stands in the answers.
+    pub fn offer_burst(&mut self, offers: &[(Offer, u32)]) -> io::Result<Vec<Result<(), Refusal>>> {
+        let records: Vec<_> = offers.iter().map(|(o, stamp)| o.record(*stamp)).collect();
+        self.log.put(records.as_flattened())?;
+        Ok(self.gate.offer_records(&records))
+    }
+
+    /// Records a poll, and then is [`Gate::poll`].
+    ///
+    /// # Errors
+    ///
+    /// [`RecordError::Log`], or the refusals of the gate.
+    pub fn poll(&mut self, stamp: u32) -> Result<Answer, RecordError> {
+        self.log
+            .put(&record(|log| sys::write_poll(stamp, log, 0)))?;
+        Ok(self.gate.poll(stamp)?)
+    }
+}
+
+impl<W> Recorder<W> {
+    /// The gate, to look at: [`Gate::state`], [`Gate::counts`].
+    pub fn gate(&self) -> &Gate {
+        &self.gate
+    }
+
+    /// The gate and the sink. Calls on the gate are from then on in no log.
+    ///
+    /// ```
+    /// use presscurlew::{Answer, RecordError, Recorder, WhenFull};
+    ///
+    /// // Room for three calls.
+    /// let mut disk = [0; 48];
+    /// let mut gate = Recorder::new(1, WhenFull::DropOldest, 0, &mut disk[..])?;
+    /// gate.sample_count(700, 100)?;
+    /// gate.poll(200)?;
+    /// assert!(matches!(gate.poll(300), Err(RecordError::Log(_))));
+    ///
+    /// let (mut gate, _) = gate.into_parts();
+    /// assert_eq!(gate.state().clock.time, 200); // the last poll was not made
+    /// assert_eq!(gate.poll(300)?, Answer::Idle);
+    /// # Ok::<(), RecordError>(())
+    /// ```
+    pub fn into_parts(self) -> (Gate, W) {
+        (self.gate, self.log.sink)
+    }
+}

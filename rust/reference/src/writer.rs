@@ -1,0 +1,93 @@
+//! W-206: from a call with its arguments to the 16 bytes of its record.
+//!
+//! The writer judges width, not worth: a number that the gate refuses is
+//! written if its field has room for it. Lifetime, busy count, identifier and
+//! stamp are as wide as their fields, and always fit.
+
+use crate::calls::{BAD_ON_TIME, BAD_PRIORITY, BAD_PROFILE, BAD_SAMPLE, NO_ROOM};
+use crate::gate::Call;
+use crate::log::{LogCall, Record, RECORD_BYTES};
+use crate::rules;
+
+/// Writes the call's record at a place of the buffer; other bytes keep what
+/// they had. The answer is 0, or the number of a refusal, which writes nothing:
+/// those of the call first, then 12 for a place without 16 bytes.
+pub fn write(call: &LogCall, buffer: &mut [u8], at: usize) -> u32 {
+    let record = match record_of(call) {
+        Ok(record) => record,
+        Err(number) => return number,
+    };
+    let end = at.checked_add(RECORD_BYTES);
+    match end.and_then(|end| buffer.get_mut(at..end)) {
+        Some(place) => {
+            place.copy_from_slice(&record.to_bytes());
+            0
+        }
+        None => NO_ROOM,
+    }
+}
+
+/// The record of a call, fields that its kind ignores zero; or the number of
+/// what does not fit, the lowest first.
+pub fn record_of(call: &LogCall) -> Result<Record, u32> {
+    match *call {
+        LogCall::Make {
+            profile,
+            oldway,
+            stamp,
+        } => make(profile, oldway, stamp),
+        LogCall::On(Call::SampleWords { ref words, stamp }) => sample(words, stamp),
+        LogCall::On(Call::SampleCount { busy, stamp }) => Ok(Record {
+            kind: 1,
+            id: busy,
+            stamp,
+            ..Record::default()
+        }),
+        LogCall::On(Call::Offer {
+            id,
+            priority,
+            ontime,
+            lifetime,
+            stamp,
+        }) => Ok(Record {
+            kind: 2,
+            priority: u8::try_from(priority).map_err(|_| BAD_PRIORITY)?,
+            ontime: u16::try_from(ontime).map_err(|_| BAD_ON_TIME)?,
+            lifetime,
+            id,
+            stamp,
+        }),
+        LogCall::On(Call::Poll { stamp }) => Ok(Record {
+            kind: 3,
+            stamp,
+            ..Record::default()
+        }),
+    }
+}
+
+/// A make: its field has room for a yes and a no alone.
+fn make(profile: u32, oldway: u32, stamp: u32) -> Result<Record, u32> {
+    if !rules::way_known(oldway) {
+        return Err(BAD_PROFILE);
+    }
+    Ok(Record {
+        kind: 0,
+        priority: u8::try_from(profile).map_err(|_| BAD_PROFILE)?,
+        lifetime: oldway,
+        stamp,
+        ..Record::default()
+    })
+}
+
+/// A sample by words, by its busy count; a bad one is refused.
+fn sample(words: &[u64], stamp: u32) -> Result<Record, u32> {
+    if !rules::words_good(words) {
+        return Err(BAD_SAMPLE);
+    }
+    Ok(Record {
+        kind: 1,
+        id: rules::busy_count(words) as u32, // at most 1,000
+        stamp,
+        ..Record::default()
+    })
+}
