@@ -517,6 +517,39 @@ fn ledgers_that_are_broken() {
     }
 }
 
+/// The request's numbers, each a µs to both sides.
+#[test]
+fn the_numbers_of_the_ledger() {
+    for profile in PROFILES {
+        let state = late(profile, [1, 0, 0, 0]);
+        let with = |held: &[Admission]| {
+            let mut state = state.with_admissions(held);
+            state.ledger = Ledger::of(held);
+            state
+        };
+        let time = state.time;
+        is_sound(&with(&row(2, 25_000, 1, time)));
+        let near = with(&row(2, 24_999, 1, time));
+        breaks_only(&near, "ledger in order, gaps at least 25,000");
+        is_sound(&with(&row(2, 999_999, 1, time)));
+        let aged = with(&row(2, 1_000_000, 1, time));
+        breaks_only(&aged, "ledger younger than 1,000,000");
+        is_sound(&with(&[]));
+        is_sound(&with(&row(40, 25_000, 1, time)));
+    }
+    for (profile, many, ontime) in [(1, 30, 1_000), (3, 10, 3_000)] {
+        let state = late(profile, [1, 0, 0, 0]);
+        let mut held = row(many, 30_000, ontime, state.time);
+        is_sound(&state.with_admissions(&held));
+        held[1].ontime -= 1;
+        is_sound(&state.with_admissions(&held));
+        held.insert(0, admission(state.time - 930_000, 1));
+        is_sound(&state.with_admissions(&held));
+        held[0].ontime = 2;
+        breaks_only(&state.with_admissions(&held), "ledger sum at most 30,000");
+    }
+}
+
 /// An admission of the last second that is not in the ledger, or one that is in
 /// it and was never the last, can't be seen; a ledger with a hole is sound.
 #[test]
