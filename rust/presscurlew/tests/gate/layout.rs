@@ -4,7 +4,9 @@
 use std::fmt::Write;
 use std::mem::{offset_of, size_of};
 
-use presscurlew::sys::{BurstTurn, Clock, Counts, Last, Ledger, Packet, Queue, Reply, State, Tuning, Turn};
+use presscurlew::sys::{
+    BurstTurn, Clock, Counts, Last, Ledger, Packet, Queue, Reply, State, Tuning, Turn,
+};
 
 const LAYOUT: &str = include_str!("../../../../examples/c/layout.out");
 
@@ -26,7 +28,9 @@ fn structs_lie_as_c_sees_them() {
     layout!(text, "last", Last, at, ontime, admitted);
     layout!(text, "counts", Counts, accepted, sent, expired, displaced);
     layout!(text, "tuning", Tuning, level, duty, smoothed, kept, pairing);
-    layout!(text, "state", State, queues, ledger, clock, last, counts, tuning, profile, oldway, live);
+    layout!(
+        text, "state", State, queues, ledger, clock, last, counts, tuning, profile, oldway, live
+    );
     layout!(text, "reply", Reply, packet, number, kind);
     layout!(text, "turn", Turn, state, reply);
     layout!(text, "burst_turn", BurstTurn, state, number);
