@@ -1,5 +1,5 @@
--- A call's work on the ledger in place: those that have aged come first, so dropping as many places drops them; a store behind what
--- is left notes the admission. A sound state's ledger is in order, and has its air time and its times within their limits.
+-- A call's work on the ledger in place: those that have aged come first, so dropping as many places drops them; a store behind
+-- what is left notes the admission. A sound state's ledger is in order, and has its air time and its times within their limits.
 use Prim.Native.Nat.{ℕ, _+_, _-_, _≤_, _<_}
 use mathlib.Core.Path.{_≡_, refl, ap, ap₂, sym, _∙_}
 use mathlib.Core.Bool.{true, false, cond, _&&_}

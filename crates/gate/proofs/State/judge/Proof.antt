@@ -1,5 +1,5 @@
--- First the numbers: one that fails fails the state. Then the loop's invariant: the answer is that of the queues that are left, and
--- of the ledger.
+-- First the numbers: one that fails fails the state. Then the loop's invariant: the answer is that of the queues that are left,
+-- and of the ledger.
 use Prim.Native.Nat.{ℕ, _≤_, _-_, _+_, _*_}
 use mathlib.Core.Path.{_≡_, _∙_, sym, ap, ap₂, refl}
 use mathlib.Core.Bool.{Bool, true, false, _&&_}
@@ -168,13 +168,15 @@ judged c =
 returns-8 : tie.Need-returns-8 Inv-loop μ-loop
 returns-8 c =
     let s = begun (c .before .before .before .before) in
-    judged (c .before) ∙ ap (λ (u : Bool). u && noting (s .args .t1)) (not-true (c .before .are-counts-sound .result) (c .if8 .taken))
+    judged (c .before)
+    ∙ ap (λ (u : Bool). u && noting (s .args .t1)) (not-true (c .before .are-counts-sound .result) (c .if8 .taken))
 
 returns-9 : tie.Need-returns-9 Inv-loop μ-loop
 returns-9 c =
+    let s = begun (c .before .before .before .before) in
     let t = c .before .before .before .before .before .before .before .before in (
       judged (c .before)
-          ∙ ap (λ (u : Bool). u && noting (begun (c .before .before .before .before) .args .t1)) (not-false (c .before .are-counts-sound .result) (c .if8 .left)),
+          ∙ ap (λ (u : Bool). u && noting (s .args .t1)) (not-false (c .before .are-counts-sound .result) (c .if8 .left)),
       leb-true _ _ (in-time _ (sym (t .before .passes-end .ensures) ∙ t .if5 .left)),
     )
 
