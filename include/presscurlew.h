@@ -374,14 +374,17 @@ presscurlew_turn presscurlew_poll(presscurlew_state state, uint32_t stamp);
  *   uint32_t now = radio_clock();
  *   presscurlew_write_poll(now, record, sizeof record, 0);
  *   if (fwrite(record, sizeof record, 1, file) != 1 || fflush(file) != 0)
- *       ...                                                    a call that is not in the log is better not made
+ *       ...                              the host decides: go on without a log, or make no call that is not in it
  *   turn = presscurlew_poll(state, now);
  *
- * A burst needs no writing: its records, one after the other, are what the log says of it. They go to the file as
- * they are, before the burst.
+ * A burst's records are such records already. They go to the file as they are, before the burst, one after the other:
+ * played, they are the single offers, which the burst is too. That needs a burst of offers alone, as
+ * presscurlew_put_offer puts them (a record of another kind gets BAD_KIND in a burst, but is a call in a log), and one
+ * that is not refused as a whole.
  *
  * A log starts with a make, and has all calls on that one state in their order. A sample by words is in it by its
  * busy count, which is all that the gate looks at: played, it is answered alike, and so is all that comes after it.
+ * So the host may take the count from the record, and make the sample by it; the words are then counted once.
  *
  * A refusal writes nothing. It comes where a number does not fit its bytes, whatever the gate would make of it:
  * profile 77, priority 200 or a busy count of 5,000 are written, and played they are refused as they were. The first

@@ -41,9 +41,10 @@ use crate::sys::{self, RECORD_BYTES};
 /// [`RecordError::Log`] and does nothing. Of what is in the log, only the last call, or some of the last burst, may not
 /// have been made. A host that has to go on without a log takes the gate out ([`Recorder::into_parts`]).
 ///
-/// **Numbers that do not fit a record.** The gate refuses all of them, in any state. The record then has a number that
-/// fits and that the gate refuses in the same way: profile 255, priority 255, on-time 65,535, and for words that are no
-/// sample the busy count 4,294,967,295. Played, the record gets the answer that the call got.
+/// **The call that is made is the one in the log**, to the last number. A sample by words is made by its busy count,
+/// which is all that the gate looks at. What fits no record the gate refuses, in any state; the recorder then records,
+/// and makes, a call that fits and is refused in the same way: profile 255, priority 255 or on-time 65,535 for one above
+/// it, and the busy count 4,294,967,295 for words that are no sample.
 #[derive(Debug)]
 pub struct Recorder<W> {
     gate: Gate,
@@ -102,48 +103,27 @@ impl<W: Write> Log<W> {
         if self.failed {
             return Err(io::Error::other("it failed before, and has ended"));
         }
-        let done = self.sink.write_all(records);
-        let done = done.and_then(|()| self.sink.flush());
-        self.failed = done.is_err();
-        done
+        // Also if the sink panics.
+        self.failed = true;
+        self.sink.write_all(records)?;
+        self.sink.flush()?;
+        self.failed = false;
+        Ok(())
+    }
+
+    /// Hands over the record that a writer makes. Its number is 0: all that it is given fits.
+    fn record(&mut self, write: impl FnOnce(&mut [u8]) -> u32) -> io::Result<()> {
+        let mut record = [0; RECORD_BYTES];
+        let number = write(&mut record);
+        assert_eq!(number, 0, "the archive refused to write a record that fits");
+        self.put(&record)
     }
 }
 
-/// The record that a writer makes. Its number is 0: all that it is given fits.
-fn record(write: impl FnOnce(&mut [u8]) -> u32) -> [u8; RECORD_BYTES] {
-    let mut record = [0; RECORD_BYTES];
-    let number = write(&mut record);
-    assert_eq!(number, 0, "the archive refused to write a record that fits");
-    record
-}
-
-/// The record of a make. A profile that does not fit is written as 255, which gets 1 as well.
-fn make_record(profile: u32, when_full: WhenFull, stamp: u32) -> [u8; RECORD_BYTES] {
-    let profile = profile.min(u8::MAX.into());
-    record(|log| sys::write_make(profile, when_full as u32, stamp, log, 0))
-}
-
-fn count_record(busy: u32, stamp: u32) -> [u8; RECORD_BYTES] {
-    record(|log| sys::write_sample_count(busy, stamp, log, 0))
-}
-
-/// The record of a sample by words. A bad one has no busy count; it is written with one that gets 4 as well.
-fn words_record(words: &[u64], stamp: u32) -> [u8; RECORD_BYTES] {
-    let mut record = [0; RECORD_BYTES];
-    match sys::write_sample_words(words, stamp, &mut record, 0) {
-        0 => record,
-        _ => count_record(u32::MAX, stamp),
-    }
-}
-
-/// The record of an offer. What does not fit is written as the most that does, which gets 5 or 6 as well.
-fn offer_record(offer: Offer, stamp: u32) -> [u8; RECORD_BYTES] {
-    let fitting = Offer {
-        priority: offer.priority.min(u8::MAX.into()),
-        ontime: offer.ontime.min(u16::MAX.into()),
-        ..offer
-    };
-    record(|log| sys::write_offer(fitting, stamp, log, 0))
+/// The busy count in the record of a sample.
+fn busy_in(record: [u8; RECORD_BYTES]) -> u32 {
+    let [.., a, b, c, d, _, _, _, _] = record;
+    u32::from_le_bytes([a, b, c, d])
 }
 
 impl<W: Write> Recorder<W> {
@@ -161,7 +141,10 @@ impl<W: Write> Recorder<W> {
     ) -> Result<Recorder<W>, RecordError> {
         let failed = false;
         let mut log = Log { sink, failed };
-        log.put(&make_record(profile, when_full, stamp))?;
+        // Any profile above 3 is refused, so that the most that fits stands for those above it.
+        let profile = profile.min(u8::MAX.into());
+        let way = when_full as u32;
+        log.record(|place| sys::write_make(profile, way, stamp, place, 0))?;
         let gate = Gate::new(profile, when_full, stamp)?;
         Ok(Recorder { gate, log })
     }
@@ -172,8 +155,14 @@ impl<W: Write> Recorder<W> {
     ///
     /// [`RecordError::Log`], or the refusals of the gate.
     pub fn sample_words(&mut self, words: &[u64], stamp: u32) -> Result<(), RecordError> {
-        self.log.put(&words_record(words, stamp))?;
-        Ok(self.gate.sample_words(words, stamp)?)
+        let mut record = [0; RECORD_BYTES];
+        if sys::write_sample_words(words, stamp, &mut record, 0) != 0 {
+            // No sample: neither is this.
+            return self.sample_count(u32::MAX, stamp);
+        }
+        self.log.put(&record)?;
+        // By the count, so that the words are counted once.
+        Ok(self.gate.sample_count(busy_in(record), stamp)?)
     }
 
     /// Records a sample by its busy count, and then is [`Gate::sample_count`].
@@ -182,7 +171,8 @@ impl<W: Write> Recorder<W> {
     ///
     /// [`RecordError::Log`], or the refusals of the gate.
     pub fn sample_count(&mut self, busy: u32, stamp: u32) -> Result<(), RecordError> {
-        self.log.put(&count_record(busy, stamp))?;
+        self.log
+            .record(|place| sys::write_sample_count(busy, stamp, place, 0))?;
         Ok(self.gate.sample_count(busy, stamp)?)
     }
 
@@ -192,7 +182,14 @@ impl<W: Write> Recorder<W> {
     ///
     /// [`RecordError::Log`], or the refusals of the gate.
     pub fn offer(&mut self, offer: Offer, stamp: u32) -> Result<(), RecordError> {
-        self.log.put(&offer_record(offer, stamp))?;
+        // No profile allows the most that fits, nor any above it.
+        let offer = Offer {
+            priority: offer.priority.min(u8::MAX.into()),
+            ontime: offer.ontime.min(u16::MAX.into()),
+            ..offer
+        };
+        self.log
+            .record(|place| sys::write_offer(offer, stamp, place, 0))?;
         Ok(self.gate.offer(offer, stamp)?)
     }
 
@@ -227,8 +224,7 @@ impl<W: Write> Recorder<W> {
     ///
     /// [`RecordError::Log`], or the refusals of the gate.
     pub fn poll(&mut self, stamp: u32) -> Result<Answer, RecordError> {
-        self.log
-            .put(&record(|log| sys::write_poll(stamp, log, 0)))?;
+        self.log.record(|place| sys::write_poll(stamp, place, 0))?;
         Ok(self.gate.poll(stamp)?)
     }
 }

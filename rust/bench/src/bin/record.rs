@@ -10,8 +10,10 @@ use presscurlew::{sys, Offer};
 const ROUNDS: usize = 13 * PLACES;
 const CALLS: usize = 3000;
 
-/// The kinds are the call log's, and one more: a sample by words. Its first number says which words.
+/// The kinds are the call log's, and two more: a sample by words, whose first number says which words, and one that is
+/// made by the count in its record if it is recorded.
 const WORDS: u32 = 4;
+const COUNTED: u32 = 5;
 const SAMPLES: usize = 64;
 
 /// What the host records to: it is written round and round.
@@ -43,9 +45,17 @@ impl End {
             0 => sys::presscurlew_make(a, b, stamp),
             1 => sys::presscurlew_sample_count(self.state, a, stamp),
             2 => sys::presscurlew_offer(self.state, a, b, c, d, stamp),
-            WORDS => sys::sample_words(self.state, &start.samples[a as usize], stamp),
+            WORDS | COUNTED => sys::sample_words(self.state, &start.samples[a as usize], stamp),
             _ => sys::presscurlew_poll(self.state, stamp),
         };
+        self.state = turn.state;
+    }
+
+    /// A sample by the busy count in the record of its words.
+    fn sample_recorded(&mut self, stamp: u32, index: usize) {
+        let busy = index * sys::RECORD_BYTES % LOG_BYTES + 8;
+        let bytes = self.log[busy..busy + 4].try_into().expect("4 bytes");
+        let turn = sys::presscurlew_sample_count(self.state, u32::from_le_bytes(bytes), stamp);
         self.state = turn.state;
     }
 
@@ -62,7 +72,7 @@ impl End {
             0 => sys::write_make(a, priority, stamp, log, at),
             1 => sys::write_sample_count(a, stamp, log, at),
             2 => sys::write_offer(offer, stamp, log, at),
-            WORDS => sys::write_sample_words(&start.samples[a as usize], stamp, log, at),
+            WORDS | COUNTED => sys::write_sample_words(&start.samples[a as usize], stamp, log, at),
             _ => sys::write_poll(stamp, log, at),
         };
         assert_eq!(number, 0);
@@ -89,7 +99,10 @@ fn recorded_calls(start: Start, row: &[Call]) -> End {
     let mut end = End::from(&start);
     for (index, call) in row.iter().enumerate() {
         end.record(&start, call, index);
-        end.call(&start, call);
+        match *call {
+            [COUNTED, .., stamp] => end.sample_recorded(stamp, index),
+            _ => end.call(&start, call),
+        }
     }
     end
 }
@@ -101,7 +114,7 @@ struct Mix {
     step: u32,
 }
 
-const MIXES: [Mix; 8] = [
+const MIXES: [Mix; 9] = [
     Mix {
         name: "make",
         call: |i| [0, 1 + i % 3, i % 2, 0, 0],
@@ -110,6 +123,11 @@ const MIXES: [Mix; 8] = [
     Mix {
         name: "sample by words",
         call: |i| [WORDS, i % SAMPLES as u32, 0, 0, 0],
+        step: 100_000,
+    },
+    Mix {
+        name: ".. made by its count",
+        call: |i| [COUNTED, i % SAMPLES as u32, 0, 0, 0],
         step: 100_000,
     },
     Mix {
