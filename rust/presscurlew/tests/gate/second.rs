@@ -183,6 +183,15 @@ fn wait_left(state: &State) -> u64 {
     closed.unwrap().saturating_sub(state.time - last.at)
 }
 
+/// Admissions as close together as they may be, which fill most of the second or all of it.
+fn crowded(rng: &mut Rng, profile: u32) -> Vec<Admission> {
+    let many = 20 + rng.below(21);
+    let most = rules::on_time_max(profile).unwrap();
+    let ontime = (rules::SECOND_MOST / many) as u32;
+    let youngest = rng.below(150_000);
+    ledgers::row(many, rules::GAP_LEAST, ontime.min(most), NOW - youngest)
+}
+
 /// Ledgers of every kind, any level and duty: CLOSED is exact at its edge.
 #[test]
 fn closed_is_the_smallest_wait() {
@@ -195,7 +204,12 @@ fn closed_is_the_smallest_wait() {
         let mut state = waiting(profile, ontime, &[]);
         state.level = rng.below(5) as u32;
         state.duty = rng.pick(&[600_000, 20_000_000, HIGHEST_DUTY, HIGHEST_DUTY]);
-        let state = state.with_admissions(&ledgers::good(profile, NOW, &mut rng));
+        let admissions = match rng.below(2) {
+            0 => ledgers::good(profile, NOW, &mut rng),
+            _ => crowded(&mut rng, profile),
+        };
+        let state = state.with_admissions(&admissions);
+        assert!(sound(&state), "{state:?}");
         let left = match poll_after(&state, 0) {
             Answer::Closed(left) => left,
             _ => 0,
@@ -480,7 +494,7 @@ fn hours_at_the_edge() {
             run.offer(rng.below(4) as u32, ontime);
             by_second += u32::from(run.send());
         }
-        assert!(by_second > 5_000, "seed {seed:#x}: {by_second}");
+        assert!(by_second > 3_000, "seed {seed:#x}: {by_second}");
         assert_eq!(run.ear.fullest, 30_000, "seed {seed:#x}");
         let book = run.book.expect("a fresh state's");
         assert_eq!(book.closest().fullest_stretch, 30_000);
