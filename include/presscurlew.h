@@ -118,7 +118,22 @@ typedef struct presscurlew_clock {
     uint32_t stamp; /* of the last call that was not refused: any number */
 } presscurlew_clock;
 
-/* The last admission. Before the first one all fields are 0. */
+/*
+ * The ledger: the admissions of the last second, in every profile. Room for 40 is enough, as no two admissions of one
+ * gate are less than 25,000 us apart. Every call that is not refused, a sample too, drops those that have reached
+ * 1,000,000 us of age, and a poll that answers SENT notes its packet; a refused call drops nothing.
+ *
+ * It is sound if its admissions are in order of time with gaps of at least 25,000 us, each at most the running time and
+ * less than 1,000,000 us before it, their on-times are allowed and sum to at most 30,000, and the newest is the last
+ * admission; where nothing was admitted, or the last admission is 1,000,000 us old or older, it is empty.
+ */
+typedef struct presscurlew_ledger {
+    uint64_t len;         /* how many it holds, 0 to 40 */
+    uint64_t ats[40];     /* the running times at which the first len were made, the oldest first; the others are 0 */
+    uint32_t ontimes[40]; /* the on-times of their packets, in the same places; the others are 0 */
+} presscurlew_ledger;
+
+/* The last admission, however long ago. Before the first one all fields are 0. */
 typedef struct presscurlew_last {
     uint64_t at;       /* the running time at which it was made; at most the running time */
     uint32_t ontime;   /* the on-time of its packet */
@@ -155,9 +170,10 @@ enum presscurlew_when_full {
     PRESSCURLEW_REFUSE_NEW = 1   /* QUEUE_FULL: what was taken once is sent or expires, and is never displaced */
 };
 
-/* The state of one gate: 608 bytes. */
+/* The state of one gate: 1,096 bytes. */
 typedef struct presscurlew_state {
     presscurlew_queue queues[4]; /* by priority */
+    presscurlew_ledger ledger;
     presscurlew_clock clock;
     presscurlew_last last;
     presscurlew_counts counts;
@@ -206,7 +222,7 @@ presscurlew_turn presscurlew_make(uint32_t profile, uint32_t when_full, uint32_t
  *
  * Load is 1,000 for each busy probe. Profiles 1 and 2 move the level by at most one towards the one that the
  * load wants. Profile 3 keeps each odd sample, and with each even one updates smoothed load and duty. A
- * sample expires nothing and counts nothing.
+ * sample expires nothing and counts nothing; it drops aged admissions from the ledger, as every call that is not refused does.
  *
  *   uint64_t words[16] = {0};
  *   for (unsigned k = 0; k < 1000; k++)
@@ -309,16 +325,27 @@ static inline void presscurlew_put_offer(uint8_t *record, uint32_t id, uint32_t 
 
 /*
  * Whether a packet may go, and which. The clock moves, and every expired packet of all queues is removed and
- * counted. Then: IDLE if nothing waits; else CLOSED, with the us left, if the wait after the last admission is
- * not over; else SENT, with the oldest packet of the lowest-numbered queue that has one, which is counted as sent.
+ * counted. Then: IDLE if nothing waits. Else the packet is the oldest of the lowest-numbered queue that has one. It is
+ * SENT, and counted as sent, if both of these hold, and else the answer is CLOSED, also where a shorter packet behind
+ * it could go:
+ *   the wait     after the last admission is over
+ *   the second   its on-time and all on-times admitted in the 1,000,000 us up to and including now sum to at most
+ *                30,000; an admission exactly 1,000,000 us ago is left out
+ * CLOSED has the us after which both hold: the greater of what is left of the wait and of the time until enough
+ * admissions have aged. Polled so much later this packet goes, and not 1 us before, unless a sample, an offer or its
+ * own expiry came between.
+ *
  * presscurlew_wait, below, says what the wait is; it is taken afresh at each poll, with the level or duty of
  * that moment. It starts
  *   profiles 1 and 2   when the transmitter stops: the on-time of the packet admitted last after its admission
  *   profile 3          at the admission
- * so a poll that finds a packet sends it if the last admission is this long ago, or longer:
+ * so a poll that finds a packet sends it if the last admission is this long ago, or longer (by then the ledger is
+ * empty), and CLOSED never has more:
  *   profile 1          1,001,000 us
  *   profile 2          1,000,500 us
  *   profile 3          1,000,000 us
+ *
+ * So a gate admits at most 30,000 us of on-time in any 1,000,000 us, wherever they begin.
  *
  * Refusals: NO_STATE, CLOCK_BACK, CLOCK_END.
  */

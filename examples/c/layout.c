@@ -7,7 +7,7 @@
 #include "presscurlew.h"
 
 #define SIZE(name) printf(#name " %zu bytes\n", sizeof(presscurlew_##name))
-#define FIELD(name, field) printf("  %-9s at %3zu\n", #field, offsetof(presscurlew_##name, field))
+#define FIELD(name, field) printf("  %-9s at %4zu\n", #field, offsetof(presscurlew_##name, field))
 
 static void parts(void) {
     SIZE(packet);
@@ -19,6 +19,10 @@ static void parts(void) {
     SIZE(queue);
     FIELD(queue, len);
     FIELD(queue, slots);
+    SIZE(ledger);
+    FIELD(ledger, len);
+    FIELD(ledger, ats);
+    FIELD(ledger, ontimes);
     SIZE(clock);
     FIELD(clock, time);
     FIELD(clock, stamp);
@@ -42,6 +46,7 @@ static void parts(void) {
 static void wholes(void) {
     SIZE(state);
     FIELD(state, queues);
+    FIELD(state, ledger);
     FIELD(state, clock);
     FIELD(state, last);
     FIELD(state, counts);

@@ -3,6 +3,7 @@ use Rattle.rules.specs.Refusals.{firstOf}
 use Rattle.packing.specs.Packing.{filled, allAre, padded}
 use Rattle.model.proofs.Computing.{of-runs}
 use Rattle.queue.specs.Layout.{packed}
+use Rattle.ledger.specs.Layout as ledger
 use Rattle.gate.specs.Layout.{soundState, callOn, makeState}
 use Rattle.calllog.specs.Records.{twoAt, fourAt, recordAt, askedBy}
 use Rattle.calllog.specs.Steps.{stepOn}
@@ -12,7 +13,7 @@ use Rattle.calllog.specs.Bursts.{burstNumber, burstState, burstAnswers}
 use Rattle.calllog.specs.Text.{reachedFrom, linesFrom, outputFrom}
 
 unfoldable pub of-states : Type 0
-unfolding of-runs filled allAre padded packed soundState callOn makeState
+unfolding of-runs filled allAre padded packed ledger.pairs ledger.packed ledger.tidy soundState callOn makeState
 of-states = Unit {0}
 
 unfoldable pub of-logs : Type 0

@@ -12,7 +12,7 @@ use Rattle.rules.proofs.Profiles.{allowed, on-limits, by-profile}
 use Rattle.rules.proofs.Waits.{Within, within1, within2, within3, adaptive-spaced}
 use Rattle.control.specs.Control.{Control, soundControl}
 use Rattle.control.specs.Wait.{waitOf}
-use Rattle.control.specs.Owed.{spare, leastGap, quiet, Floors, claimsCeiling}
+use Rattle.control.specs.Owed.{spare, leastGap, second, quiet, Floors, claimsCeiling}
 use Rattle.control.specs.Owed.{Keeps, KeepsCeiling, Allowed, AllKeep, ClaimantsKeep}
 use Rattle.control.proofs.Controls.{test-control, duty-limits}
 
@@ -37,9 +37,12 @@ all-keep k ontime s =
     let w = within-limits k ontime (s .0) in
     let least =
     on-limits (λ l. leastGap ≤ l .leastwait) (k .profile) (omega arith) (omega arith) (omega arith) in
+    let long =
+    on-limits (λ l. second ≤ l .mostwait) (k .profile) (omega arith) (omega arith) (omega arith) in
     record {
       longest = omega (arith, mul-le-mul-left (l .fromend) (allowed (k .profile) ontime (s .1) .1), w .1);
       apart = omega (arith, least, w .0);
+      forgets = omega (arith, long);
     }
 
 -- a wait that spaces the on-time keeps the ceiling

@@ -11,7 +11,7 @@ use Rattle.rules.specs.Wait.{adaptiveWait, startOf}
 use Rattle.control.specs.declared.Tuning.{Tuning}
 use Rattle.control.specs.Control.{Control, controlOf, freshControl, noControl, pairingSound, soundControl, sampled}
 use Rattle.control.specs.Wait.{waitOf, closedAfter}
-use Rattle.control.specs.Owed.{spare, leastGap, quiet, claimsCeiling}
+use Rattle.control.specs.Owed.{spare, leastGap, second, quiet, claimsCeiling}
 use Rattle.control.proofs.Owed.{floors, all-keep, claimants-keep}
 
 -- a control by its numbers: profile, level, duty, smoothed load, kept sample, whether one is kept
@@ -264,9 +264,9 @@ quiet-times = refl
 floors-by-profile : (quiet 1 ≡ 1001000) × (quiet 2 ≡ 1000500) × (quiet 3 ≡ 1000000)
 floors-by-profile = floors
 
--- "100 x air time admitted ≤ 3 W + 400,000"; "gaps of at least 25,000 µs" (W-207)
-spare-and-gap : spare ∷ leastGap ∷ [] ≡ 400000 ∷ 25000 ∷ []
-spare-and-gap = refl
+-- "100 x air time admitted ≤ 3 W + 400,000"; "gaps of at least 25,000 µs", "1,000,000 µs" (W-207)
+spare-gap-second : spare ∷ leastGap ∷ second ∷ [] ≡ 400000 ∷ 25000 ∷ 1000000 ∷ []
+spare-gap-second = refl
 
 -- "Demand 3's ceiling is what holds": in every profile
 ceiling-claimed : map claimsCeiling (0 ∷ 1 ∷ 2 ∷ 3 ∷ 4 ∷ []) ≡ false ∷ true ∷ true ∷ true ∷ false ∷ []
@@ -276,8 +276,8 @@ ceiling-claimed = refl
 -- what every profile owes, and what one owes that claims the ceiling, in numbers
 
 all-owe : (k : Control) (ontime : ℕ) → soundControl k ≡ true → ontimeAllowed (k .profile) ontime ≡ true
-    → (closedAfter k ontime ≤ quiet (k .profile)) × (25000 ≤ closedAfter k ontime)
-all-owe k ontime s o = let h = all-keep k ontime (s, o) in (h .longest, h .apart)
+    → (closedAfter k ontime ≤ quiet (k .profile)) × (25000 ≤ closedAfter k ontime) × (1000000 ≤ quiet (k .profile))
+all-owe k ontime s o = let h = all-keep k ontime (s, o) in (h .longest, h .apart, h .forgets)
 
 claimants-owe : (k : Control) (ontime : ℕ) → soundControl k ≡ true → ontimeAllowed (k .profile) ontime ≡ true
     → claimsCeiling (k .profile) ≡ true → (100 * ontime ≤ 3 * closedAfter k ontime) × (100 * ontime ≤ 400000)

@@ -16,6 +16,10 @@ spare = 400000
 abbrev pub leastGap : ℕ
 leastGap = 25000
 
+-- "Test houses slide source 004's one second." (document 02, W-207)
+abbrev pub second : ℕ
+second = 1000000
+
 -- the floor: a poll that finds a packet so many µs or more after every earlier admission sends. It is the
 -- longest wait, from where the wait of the longest packet starts
 unfoldable pub quiet : (profile : ℕ) → ℕ
@@ -36,6 +40,8 @@ pub record Keeps (k : Control) (ontime : ℕ) : Type 0 where
   pub longest : closedAfter k ontime ≤ quiet (k .profile)
   -- admissions are so far apart
   pub apart : leastGap ≤ closedAfter k ontime
+  -- after the quiet time no admission is left in the last second
+  pub forgets : second ≤ quiet (k .profile)
 
 -- what a profile owes besides that claims the ceiling
 pub record KeepsCeiling (k : Control) (ontime : ℕ) : Type 0 where

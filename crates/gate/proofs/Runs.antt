@@ -15,7 +15,8 @@ use Rattle.model.specs.Effects.{Result}
 use Rattle.model.specs.Gate.{ownChecks, clockChecks, checks, make, call}
 use Rattle.model.specs.Journal.{Journal, opened, journalOf}
 use Rattle.model.specs.Claims.{Claims, viewAfter, events}
-use Rattle.model.proofs.Sound.{test-view}
+use Rattle.model.proofs.Sound.{test-view, forty-are-enough}
+use Rattle.ledger.proofs.Meaning.{packed-tidy}
 use Rattle.model.proofs.Refusals.{refusals-change-nothing, refusals-are-exact}
 use Rattle.model.proofs.KeepsSound.{calls-keep-sound}
 use Rattle.model.proofs.Demand3.{demand3}
@@ -38,6 +39,7 @@ state-sound v e =
       tidy-packed (v .waiting .c1) (q .1 .size),
       tidy-packed (v .waiting .c2) (q .2 .size),
       tidy-packed (v .waiting .c3) (q .3 .size),
+      packed-tidy (v .ledger) (forty-are-enough v e),
       view-state v,
     )
     e
@@ -46,7 +48,7 @@ state-sound v e =
 abbrev Reads : Result inQueues → Outcome → Type 0
 Reads w o = (viewOf (o .state) ≡ w .view) × (o .answer ≡ w .answer) × (soundState (o .state) ≡ true)
 
-call-reads : (s : State) (c : Call) → soundState s ≡ true → Reads (call (viewOf s) c) (callOn s c)
+pub call-reads : (s : State) (c : Call) → soundState s ≡ true → Reads (call (viewOf s) c) (callOn s c)
 unfolding callOn
 call-reads s c e =
     rw e

@@ -1,5 +1,5 @@
--- The soundness of a state, as its code judges it: first the numbers, then each queue with its padding. A state whose four queues
--- are packed is laid out.
+-- The soundness of a state, as its code judges it: first the numbers, then each queue with its padding, last the ledger. A state
+-- whose four queues and ledger are packed is laid out.
 use Prim.Native.Nat.{ℕ, zero, suc, _+_, _≤_, _<_}
 use mathlib.Core.Path.{_≡_, refl, ap, sym, _∙_, subst⁻¹}
 use mathlib.Core.Bool.{Bool, true, false, _&&_, and-false, and-true}
@@ -20,6 +20,8 @@ use Rattle.model.specs.Queues.{queueSound}
 use Rattle.model.specs.State.{lastRules, countRules, sound}
 use Rattle.queue.specs.declared.Queue.{Queue}
 use Rattle.queue.specs.Layout.{items, packed, Packed, tidy, soundQueue}
+use Rattle.model.specs.Ledger.{ledgerRules}
+use Rattle.ledger.specs.Layout as ledger
 use Rattle.gate.specs.declared.State.{State}
 use Rattle.gate.specs.Layout.{noQueue, queueAt, listsOf, queuesOf, stateFrom, numbersOf, LaidOut, soundState}
 use Rattle.gate.specs.Requests.{soundQueues}
@@ -43,23 +45,29 @@ more-packed n qs f p k h =
     (λ e. let same : k ≡ n = omega (arith, leb-true n k e) in subst⁻¹ (λ (x : ℕ). Packed (queueAt qs x)) same p)
     (λ e. f k (leb-false n k e))
 
-pub laid-out : (s : State) → length (s .queues) ≡ 4 → AllPacked 4 (s .queues) → LaidOut s
-laid-out s h f = λ i. stateFrom (same i) (s .live) (numbersOf s)
+pub laid-out : (s : State) → length (s .queues) ≡ 4 → AllPacked 4 (s .queues) → ledger.Packed (s .ledger) → LaidOut s
+laid-out s h f l = λ i. stateFrom (same i) (l i) (s .live) (numbersOf s)
   where
     same : s .queues ≡ queuesOf (listsOf (s .queues))
     same =
         four-long (s .queues) h
         ∙ (λ i. f 0 (omega arith) i ∷ f 1 (omega arith) i ∷ f 2 (omega arith) i ∷ f 3 (omega arith) i ∷ [])
 
--- tests of two kinds, taken by kind or by queue; then one more
-regroup : (a b c d p q r s z : Bool)
-    → (a && (b && (c && (d && true)))) && ((p && (q && (r && (s && true)))) && (z && true))
-    ≡ ((a && p) && ((b && q) && ((c && r) && ((d && s) && true)))) && z
-regroup false b c d p q r s z = refl
-regroup true false c d p q r s z = sym (ap (λ (u : Bool). u && z) (and-false p))
-regroup true true false d p q r s z = simp and-false
-regroup true true true false p q r s z = simp and-false
-regroup true true true true p q r s z = ap (λ (u : Bool). (p && (q && (r && (s && true)))) && u) (and-true z)
+-- tests of two kinds, taken by kind or by queue; then one more, and two of the ledger's
+last-two : (u z w : Bool) → (u && (z && (w && true))) ≡ ((u && z) && w)
+last-two true true w = and-true w
+last-two true false w = refl
+last-two false z w = refl
+
+regroup : (a b c d t p q r s z w : Bool)
+    → ((a && (b && (c && (d && true)))) && t) && ((p && (q && (r && (s && true)))) && (z && (w && true)))
+    ≡ (((a && p) && ((b && q) && ((c && r) && ((d && s) && true)))) && z) && (t && w)
+regroup false b c d t p q r s z w = refl
+regroup true false c d t p q r s z w = simp and-false
+regroup true true false d t p q r s z w = simp and-false
+regroup true true true false t p q r s z w = simp and-false
+regroup true true true true false p q r s z w = simp and-false
+regroup true true true true true p q r s z w = last-two (p && (q && (r && (s && true)))) z w
 
 -- the groups of a state that are judged before its queues
 abbrev steered : State → Bool
@@ -71,16 +79,20 @@ lasting s = allOf (lastRules (s .profile) (s .clock .time) (s .last))
 abbrev pub counted : State → Bool
 counted s = allOf (countRules (howMany (listsOf (s .queues))) (s .counts))
 
--- where the numbers are sound, the state is exactly if its queues are
+abbrev pub noting : State → Bool
+noting s = ledger.soundLedger (s .profile) (s .clock .time) (s .last) (s .ledger)
+
+-- where the numbers are sound, the state is exactly if its queues and its ledger are
 pub sound-by-queues : (s : State) → length (s .queues) ≡ 4 → eqb (s .live) 1 ≡ true → leb (s .oldway) 1 ≡ true → steered s ≡ true
     → leb (s .clock .time) endOfTime ≡ true → lasting s ≡ true
-    → soundState s ≡ (soundQueues (s .profile) (s .clock .time) 0 (s .queues) && counted s)
-unfolding soundState sound soundQueues soundQueue
+    → soundState s ≡ ((soundQueues (s .profile) (s .clock .time) 0 (s .queues) && counted s) && noting s)
+unfolding soundState sound soundQueues soundQueue ledger.soundLedger
 sound-by-queues s h a w b c d =
     rw (a, w, b, c, d)
-    (regroup (tidy (queueAt qs 0)) (tidy (queueAt qs 1)) (tidy (queueAt qs 2)) (tidy (queueAt qs 3))
+    (regroup (tidy (queueAt qs 0)) (tidy (queueAt qs 1)) (tidy (queueAt qs 2)) (tidy (queueAt qs 3)) (ledger.tidy (s .ledger))
     (judge 0) (judge 1) (judge 2) (judge 3) (counted s)
-    ∙ ap (λ (l : List Queue). soundQueues (s .profile) now 0 l && counted s) (sym (four-long qs h)))
+    (allOf (ledgerRules (s .profile) now (s .last) (ledger.items (s .ledger))))
+    ∙ ap (λ (l : List Queue). (soundQueues (s .profile) now 0 l && counted s) && noting s) (sym (four-long qs h)))
   where
     qs : List Queue
     qs = s .queues

@@ -11,12 +11,13 @@ use Rattle.model.specs.Calls.{Call, offer, poll}
 use Rattle.model.proofs.Computing.{of-runs}
 use Rattle.queue.specs.declared.Queue.{Queue}
 use Rattle.queue.specs.Layout.{packed}
+use Rattle.ledger.specs.Layout as ledger
 use Rattle.gate.specs.declared.State.{State}
 use Rattle.gate.specs.Layout.{stateFrom, numbersOf, soundState, outcome, callOn, makeState}
 use Rattle.gate.specs.Runs.{stateAfter}
 
 of-states : Type 0
-unfolding of-runs filled allAre padded packed soundState callOn makeState
+unfolding of-runs filled allAre padded packed ledger.pairs ledger.packed ledger.tidy soundState callOn makeState
 of-states = Unit {0}
 
 empty : Queue
@@ -36,7 +37,7 @@ fresh-queues = (refl, refl, refl, refl)
 
 -- the fresh state with another first queue
 withFirst : Queue → State
-withFirst q = stateFrom (q ∷ empty ∷ empty ∷ empty ∷ []) 1 (numbersOf fresh)
+withFirst q = stateFrom (q ∷ empty ∷ empty ∷ empty ∷ []) (fresh .ledger) 1 (numbersOf fresh)
 
 waiting : Packet
 waiting = record { id = 9; priority = 0; ontime = 400; lifetime = 1000; arrival = 0 }

@@ -11,10 +11,11 @@ use Rattle.control.specs.Wait.{waitOf}
 use Rattle.control.specs.Owed.{quiet}
 use Rattle.model.specs.Packets.{withoutExpired, inOrder}
 use Rattle.model.specs.Queues.{queueSound, choice}
+use Rattle.model.specs.Ledger.{young, airOf, allowedFrom, spacedOut, newestIs}
 use Rattle.model.specs.State.{sound}
 use Rattle.model.specs.Effects.{closed, effect}
 use Rattle.model.specs.Gate.{checks, makeIn, call}
-use Rattle.model.specs.Journal.{picked, lowest, journalOf, airTime}
+use Rattle.model.specs.Journal.{picked, lowest, journalOf, airTime, airIn, lastSecond}
 use Rattle.model.specs.Claims.{viewAfter, events}
 
 unfoldable pub of-numbers : Type 0
@@ -30,13 +31,13 @@ unfolding of-numbers waitBy adaptiveWait startOf waitOf quiet
 of-waits = Unit {0}
 
 unfoldable pub of-soundness : Type 0
-unfolding of-numbers pairingSound soundControl inOrder queueSound sound
+unfolding of-numbers pairingSound soundControl inOrder queueSound spacedOut newestIs airOf sound
 of-soundness = Unit {0}
 
 unfoldable pub of-calls : Type 0
-unfolding of-samples of-waits of-soundness withoutExpired choice closed effect checks makeIn call
+unfolding of-samples of-waits of-soundness young allowedFrom withoutExpired choice closed effect checks makeIn call
 of-calls = Unit {0}
 
 unfoldable pub of-runs : Type 0
-unfolding of-calls viewAfter events picked lowest journalOf airTime
+unfolding of-calls viewAfter events picked lowest journalOf airTime airIn lastSecond
 of-runs = Unit {0}

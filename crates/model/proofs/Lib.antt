@@ -2,6 +2,8 @@
 -- journal; runs. Last, the definitions run on document 01's examples.
 pub mod Fours
 pub mod Window
+pub mod Aging
+pub mod AnySecond
 pub mod Columns
 pub mod Turns
 pub mod Displacing
@@ -10,10 +12,12 @@ pub mod Profile
 pub mod Orders
 pub mod SoundQueues
 pub mod Counting
+pub mod SoundLedger
 pub mod Sound
 pub mod Gaps
 pub mod Invariant
 pub mod KeepsSound
+pub mod Closing
 pub mod Runs
 pub mod Demand3
 pub mod DeliveryLines
@@ -25,6 +29,7 @@ pub mod Sampling
 pub mod Computing
 pub mod Worked
 pub mod WorkedStates
+pub mod WorkedSecond
 pub mod SampleLog
 pub mod DeliveryExample
 pub mod Stated

@@ -11,7 +11,7 @@ use Rattle.rules.proofs.Cases.{on-cond, clash}
 use Rattle.rules.proofs.Refusals.{Numbered, first-of, of-first, first-numbered, of-none}
 use Rattle.model.specs.declared.Answer.the-variants.{Refused}
 use Rattle.model.specs.Calls.{isRefused, Call, words, count, offer, poll}
-use Rattle.model.specs.Effects.{Result, result, closed, refreshed, polled, effect}
+use Rattle.model.specs.Effects.{Result, result, maySend, refreshed, polled, effect}
 use Rattle.model.specs.Packets.{Holding, Chosen, nothing, chosen}
 use Rattle.model.specs.State.{Status}
 use Rattle.model.specs.Gate.{checks, call, RefusalsChangeNothing, RefusalsAreExact}
@@ -22,7 +22,7 @@ Accepts o = isRefused (o .answer) ≡ false
 
 polled-accepts : {h : Holding} (v : Status h) (c : Chosen (h .Held)) → Accepts (polled v c)
 polled-accepts v nothing = refl
-polled-accepts v (chosen p left) = on-cond Accepts (closed v) (λ e. refl) (λ e. refl)
+polled-accepts v (chosen p left) = on-cond Accepts (maySend v p) (λ e. refl) (λ e. refl)
 
 pub effect-accepts : {h : Holding} (v : Status h) (c : Call) → isRefused (effect v c .answer) ≡ false
 unfolding effect

@@ -16,17 +16,19 @@ use Rattle.control.proofs.Controls.{SoundControl, test-control, control-test}
 use Rattle.model.specs.declared.Packet.{Packet}
 use Rattle.model.specs.declared.Last.{Last}
 use Rattle.model.specs.declared.Counts.{Counts}
-use Rattle.model.specs.Packets.{withoutExpired}
+use Rattle.model.specs.Packets.{withoutExpired, Holding}
 use Rattle.model.specs.Fours.{Four, howMany}
 use Rattle.model.specs.Queues.{queueRules, choice}
 use Rattle.model.specs.Calls.{Call, stampOf}
 use Rattle.model.specs.State.{View, lastRules, countRules, statusRules, sound}
 use Rattle.model.specs.Effects.{stepped, moved, expired, refreshed}
-use Rattle.model.specs.Gate.{checks}
+use Rattle.model.specs.Gate.{checks, FortyAreEnough}
 use Rattle.model.proofs.Fours.{Fours, fours-each}
 use Rattle.model.proofs.Counting.{many-expired}
 use Rattle.model.proofs.SoundQueues.{Queued, test-queued, queued-test, queued-later, queued-expired, queued-tail, OfChoice}
 use Rattle.model.proofs.SoundQueues.{of-choice}
+use Rattle.model.proofs.Aging.{noted-forty}
+use Rattle.model.proofs.SoundLedger.{SoundLedger, test-ledger, ledger-test, aged-sound}
 
 pub record SoundLast (profile now : ℕ) (l : Last) : Type 0 where
   pub flag : l .admitted ≤ 1
@@ -49,6 +51,7 @@ pub record SoundView (v : View) : Type 0 where
   pub last : SoundLast (v .control .profile) (v .clock .time) (v .last)
   pub queues : SoundQueues (v .control .profile) (v .clock .time) (v .waiting)
   pub counts : SoundCounts (howMany (v .waiting)) (v .counts)
+  pub ledger : SoundLedger (v .control .profile) (v .clock .time) (v .last) (v .ledger)
 
 -- the tests say these facts, and no more
 pub test-last : (profile now : ℕ) (l : Last) → allOf (lastRules profile now l) ≡ true → SoundLast profile now l
@@ -97,6 +100,7 @@ test-view v e =
       last = test-last (v .control .profile) (v .clock .time) (v .last) (h .1 .1 .1 .1 .0);
       queues = test-queues (v .control .profile) (v .clock .time) (v .waiting) (h .1 .1 .1 .1 .1 .0);
       counts = test-counts (howMany (v .waiting)) (v .counts) (h .1 .1 .1 .1 .1 .1 .0);
+      ledger = test-ledger (v .control .profile) (v .clock .time) (v .last) (v .ledger) (h .1 .1 .1 .1 .1 .1 .1 .0);
     }
 
 pub view-test : (v : View) → SoundView v → sound v ≡ true
@@ -110,6 +114,7 @@ view-test v h =
       last-test (v .control .profile) (v .clock .time) (v .last) (h .last),
       queues-test (v .control .profile) (v .clock .time) (v .waiting) (h .queues),
       counts-test (howMany (v .waiting)) (v .counts) (h .counts),
+      ledger-test (v .control .profile) (v .clock .time) (v .last) (v .ledger) (h .ledger),
     )
 
 -- the on-time of the last admission is one that its profile allows
@@ -123,6 +128,14 @@ last-admits v h some = (
   last-allowed (v .control .profile) (v .clock .time) (v .last) (h .last) some,
 )
 
+-- "40 are enough", whatever way packets wait
+pub forty-are-enough : {h : Holding} → FortyAreEnough h
+unfolding sound
+forty-are-enough {h} v e =
+    let r = all-true (statusRules v) e in
+    let l = test-ledger (v .control .profile) (v .clock .time) (v .last) (v .ledger) (r .1 .1 .1 .1 .1 .1 .1 .0) in
+    noted-forty (v .control .profile) (v .clock .time) 0 (v .ledger) (l .noted)
+
 -- the clock
 pub moved-sound : (v : View) (stamp : ℕ) → stepped (v .clock) stamp .time ≤ endOfTime → SoundView v → SoundView (moved v stamp)
 moved-sound v stamp k h =
@@ -133,7 +146,10 @@ moved-sound v stamp k h =
     (λ (ps : List Packet). ps)
     (λ n ps. queued-later (v .control .profile) (v .clock .time) (stepped (v .clock) stamp .time) n ps (omega arith))
     (v .waiting) (h .queues) in
-    search (k, past, queues, h)
+    let ledger =
+    aged-sound (v .control .profile) (v .clock .time) (stepped (v .clock) stamp .time) (v .last) (v .ledger) (omega arith)
+    (h .ledger) in
+    search (k, past, queues, ledger, h)
 
 -- expiry
 expired-sound : (v : View) → SoundView v → SoundView (expired v)

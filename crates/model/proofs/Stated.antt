@@ -1,14 +1,14 @@
 -- Demand 3, the delivery and the refusals' laws in the papers' own numbers, from their proofs: a statement of specs/ that says
 -- less fails here. Then what they are stated with, worked by hand: each side computes to the other.
 use Prim.Native.Nat.{ℕ, suc, _+_, _-_, _*_, _≤_, _<_}
-use mathlib.Core.Path.{_≡_, refl, ap, _∙_, subst}
+use mathlib.Core.Path.{_≡_, refl, ap, sym, _∙_, subst}
 use mathlib.Core.Logic.{_⊎_, inl, inr}
 use mathlib.Core.Bool.{true, false}
 use mathlib.Core.List.{List, [], _∷_, _++_, map}
 use native.Mathlib.Omega.{arith}
 use lib.Dec.{eqb}
 use lib.ListN.{length}
-use borrow.Author.Tests.{not-false, eqb-true}
+use borrow.Author.Tests.{not-false, eqb-true, le-leb, lt-leb}
 use Rattle.rules.specs.Profiles.{isProfile}
 use Rattle.rules.specs.Refusals.{firstOf, FirstHolds}
 use Rattle.rules.proofs.Cases.{on-cond, clash}
@@ -22,18 +22,22 @@ use Rattle.model.specs.declared.Offer.{Offer}
 use Rattle.model.specs.declared.Answer.{Answer}
 use Rattle.model.specs.declared.Answer.the-variants.{Ready, Taken, Sent, Idle, Closed, Refused}
 use Rattle.model.specs.Packets.{Holding}
-use Rattle.model.specs.Queues.{inQueues}
+use Rattle.model.specs.Queues.{inQueues, choice}
 use Rattle.model.specs.Fours.{Four, four}
 use Rattle.model.specs.Calls.{Call, words, count, offer, poll, Making, isSent, isRefused}
 use Rattle.model.specs.State.{Status, View, sound}
-use Rattle.model.specs.Effects.{Result}
-use Rattle.model.specs.Gate.{makeChecks, makeIn, make, checks, call}
-use Rattle.model.specs.Journal.{Entry, Admission, Way, expiry, displacement, admission, Departure, Journal}
+use Rattle.model.specs.Effects.{Result, refreshed, polled}
+use Rattle.model.specs.Gate.{makeChecks, makeIn, make, checks, call, waited}
+use Rattle.model.specs.declared.Admission.{Admission}
+use Rattle.model.specs.Journal.{Entry, Way, expiry, displacement, admission, Departure, Journal}
 use Rattle.model.specs.Journal.{opened, turned, arriving, roomFor, entryOf, lowest, top, atPoll, journalOf, airTime}
-use Rattle.model.specs.Claims.{viewAfter, events, All, InTurn, ByTheFifth, Newest, Claims}
+use Rattle.model.specs.Journal.{airIn, lastSecond}
+use Rattle.model.specs.Claims.{viewAfter, events, All, InTurn, ByTheFifth, Newest, Apart, Claims}
 use Rattle.model.specs.Delivery.{Among, longestWait, lastPoll, PolledEvery, FewerThanFive}
 use Rattle.model.proofs.Refusals.{refusals-change-nothing, refusals-are-exact}
+use Rattle.model.proofs.Sound.{forty-are-enough}
 use Rattle.model.proofs.KeepsSound.{calls-keep-sound}
+use Rattle.model.proofs.Closing.{closed-is-least}
 use Rattle.model.proofs.Runs.{runs-are-their-parts}
 use Rattle.model.proofs.Demand3.{demand3, old-way-displaces-nothing}
 use Rattle.model.proofs.DeliveryLines.{all-of}
@@ -51,6 +55,16 @@ refused-exactly = refusals-are-exact
 
 stays-sound : (v : View) (c : Call) → sound v ≡ true → sound (call v c .view) ≡ true
 stays-sound = calls-keep-sound
+
+-- "CLOSED reports the smallest further wait after which that packet would go if no sample, offer or expiry came between and the
+-- clock had no end." (W-207): d µs later a poll of it sends, or does not
+goes-when-told : (v : View) (stamp n d : ℕ) → call v (poll stamp) .answer ≡ Closed n → n ≤ d
+    → isSent (polled (waited (refreshed v stamp) d) (choice (refreshed v stamp .waiting)) .answer) ≡ true
+goes-when-told v stamp n d r h = closed-is-least v stamp n r d ∙ le-leb n d h
+
+not-before : (v : View) (stamp n d : ℕ) → call v (poll stamp) .answer ≡ Closed n → d < n
+    → isSent (polled (waited (refreshed v stamp) d) (choice (refreshed v stamp .waiting)) .answer) ≡ false
+not-before v stamp n d r h = closed-is-least v stamp n r d ∙ lt-leb n d h
 
 -- "the top packet of the lowest-numbered non-empty column": the first of the columns one behind the other
 abbrev joined : Four Entry → List Entry
@@ -142,6 +156,27 @@ module _ (m : Making) (calls : List Call) (ready : make m .answer ≡ Ready) whe
   -- "in any window of W µs, 100 x air time admitted ≤ 3 W + 400,000", in each profile
   ceiling : (from w : ℕ) → 100 * airTime from w (j .admissions) ≤ 3 * w + 400000
   ceiling = claims .ceiling (all-claim (m .profile) (ready-profile m ready))
+
+  -- "Over any run from a fresh state, on-times admitted in any half-open stretch of 1,000,000 µs sum to at most 30,000." (W-207)
+  any-second : (from : ℕ) → airIn from (from + 1000000) (j .admissions) ≤ 30000
+  any-second = claims .in-any-second
+
+  -- "the admissions of the last second in the state": one is there exactly if it came less than 1,000,000 µs ago
+  in-ledger : v .ledger ≡ lastSecond (v .clock .time) (j .admissions)
+  in-ledger = claims .ledger ∙ ap (λ (t : ℕ). lastSecond t (j .admissions)) (sym (claims .time))
+
+  -- "gaps of at least 25,000 µs": of any two that follow one another
+  gaps : (b a : Admission) (later earlier : List Admission) → j .admissions ≡ later ++ b ∷ a ∷ earlier → a .at + 25000 ≤ b .at
+  gaps b a later earlier e = gap-in later (subst Apart e (claims .apart))
+    where
+      gap-in : (later : List Admission) → Apart (later ++ b ∷ a ∷ earlier) → a .at + 25000 ≤ b .at
+      gap-in [] h = h .0
+      gap-in (x ∷ []) h = h .1 .0
+      gap-in (x ∷ y ∷ l) h = gap-in (y ∷ l) (h .1)
+
+  -- "40 are enough"
+  forty : length (v .ledger) ≤ 40
+  forty = forty-are-enough v (claims .sound-throughout)
 
   -- "an accepted poll that finds an unexpired packet" so long after every earlier admission answers SENT
   abbrev Floor : (µs : ℕ) → Type 0

@@ -2,12 +2,14 @@
 -- computes to the other, so a definition that is read otherwise fails here.
 use Prim.Native.Nat.{ℕ, _+_}
 use mathlib.Core.Path.{_≡_, refl}
+use mathlib.Core.Bool.{cond}
 use mathlib.Core.List.{List, [], _∷_, _++_, map}
 use Rattle.rules.specs.Refusals.{Check}
 use Rattle.control.specs.Control.{Control}
 use Rattle.model.specs.declared.Packet.{Packet}
 use Rattle.model.specs.declared.Clock.{Clock}
 use Rattle.model.specs.declared.Last.{Last}
+use Rattle.model.specs.declared.Admission.{Admission}
 use Rattle.model.specs.declared.Counts.{Counts}
 use Rattle.model.specs.declared.Offer.{Offer}
 use Rattle.model.specs.declared.Answer.{Answer}
@@ -15,7 +17,8 @@ use Rattle.model.specs.declared.Answer.the-variants.{Ready, Taken, Sent,
 use Rattle.model.specs.Packets.{Holding}
 use Rattle.model.specs.Fours.{Four}
 use Rattle.model.specs.Calls.{Call, words, count, offer, poll, Making}
-use Rattle.model.specs.State.{Status, View, withClock, withControl, withLast, withCounts}
+use Rattle.model.specs.Ledger.{isRecent}
+use Rattle.model.specs.State.{Status, View, withClock, withControl, withLast, withLedger, withCounts}
 use Rattle.model.specs.Effects.{result}
 use Rattle.model.specs.Gate.{makeChecks, make, checks, call}
 use Rattle.model.specs.Claims.{viewAfter, events}
@@ -50,10 +53,28 @@ packet id priority ontime lifetime arrival =
 abbrev pub queues : {A : Type 0} → List A → List A → List A → List A → Four A
 queues a b c d = record { c0 = a; c1 = b; c2 = c; c3 = d }
 
--- a state that is live, of a gate made in the new way; one with another number for its way
+-- a ledger with the last admission alone, where that is young enough
+abbrev pub alone : (now : ℕ) → Last → List Admission
+alone now last = cond (isRecent now last) (record { at = last .at; ontime = last .ontime } ∷ []) []
+
+-- a state that is live, of a gate made in the new way, which admitted nothing in the last second but its last admission; one with
+-- another number for its way
 abbrev pub state : Clock → Control → Last → Counts → Four Packet → View
 state clock control last counts waiting =
-    record { live = 1; oldway = 0; clock = clock; control = control; last = last; counts = counts; waiting = waiting }
+    record {
+      live = 1;
+      oldway = 0;
+      clock = clock;
+      control = control;
+      last = last;
+      ledger = alone (clock .time) last;
+      counts = counts;
+      waiting = waiting;
+    }
+
+-- a state's ledger brought up to its clock and last admission
+abbrev pub upToDate : View → View
+upToDate v = withLedger v (alone (v .clock .time) (v .last))
 
 abbrev pub withWay : (oldway : ℕ) → View → View
 withWay oldway v =
@@ -63,6 +84,7 @@ withWay oldway v =
       clock = v .clock;
       control = v .control;
       last = v .last;
+      ledger = v .ledger;
       counts = v .counts;
       waiting = v .waiting;
     }
@@ -492,7 +514,7 @@ idle-poll = refl
 -- "else SENT with the whole packet, which leaves its queue and is recorded as the last admission": it is CLOSED only "if
 -- something was admitted"
 sent-poll :
-    call (withLast crowded (lastAt 0 0 0)) (poll 5)
+    call (upToDate (withLast crowded (lastAt 0 0 0))) (poll 5)
     ≡ result
     (state (clockAt 22 5) (steered 1 0 600000 0 0 0) (lastAt 22 11 1) (twoDisplaced 15 4 2)
     (queues (packet 2 0 12 100 10 ∷ packet 3 0 13 100 12 ∷ packet 4 0 14 100 13 ∷ packet 5 0 15 100 14 ∷ []) [] one2 two3))

@@ -16,7 +16,7 @@ use Rattle.model.specs.State.{View, withClock, withControl, withLast, wi
 use Rattle.model.specs.Effects.{result}
 use Rattle.model.specs.Gate.{make, call}
 use Rattle.model.proofs.Computing.{of-runs}
-use Rattle.model.proofs.Worked.{clockAt, lastAt, counted, withDisplaced, steered, packet, queues, state, withWay}
+use Rattle.model.proofs.Worked.{clockAt, lastAt, counted, withDisplaced, steered, packet, queues, state, withWay, upToDate}
 use Rattle.model.proofs.Worked.{making, makingOld, offering, crowded}
 
 -- "A fresh state: live, last stamp as given to make, running time 0, level 0, duty 600,000, smoothed load 0, no sample kept,
@@ -45,6 +45,7 @@ allZero =
       clock = clockAt 0 0;
       control = steered 0 0 0 0 0 0;
       last = lastAt 0 0 0;
+      ledger = [];
       counts = counted 0 0 0;
       waiting = queues [] [] [] [];
     }
@@ -79,13 +80,14 @@ ofLive live =
       clock = good .clock;
       control = good .control;
       last = good .last;
+      ledger = good .ledger;
       counts = good .counts;
       waiting = good .waiting;
     })
 
 ofTime : (time : ℕ) → Bool
 unfolding isSound
-ofTime time = isSound (withClock good (clockAt time 7))
+ofTime time = isSound (upToDate (withClock good (clockAt time 7)))
 
 ofControl : Control → Bool
 unfolding isSound
@@ -93,7 +95,7 @@ ofControl k = isSound (withControl good k)
 
 ofLast : Last → Bool
 unfolding isSound
-ofLast l = isSound (withLast good l)
+ofLast l = isSound (upToDate (withLast good l))
 
 ofCounts : Counts → Bool
 unfolding isSound
@@ -166,7 +168,7 @@ sound-last-ontime :
 unfolding ofLast
 sound-last-ontime = refl
 
-shorter-in-1 : map (λ (n : ℕ). isSound (withLast crowded (lastAt 15 n 1))) (1000 ∷ 1001 ∷ []) ≡ true ∷ false ∷ []
+shorter-in-1 : map (λ (n : ℕ). isSound (upToDate (withLast crowded (lastAt 15 n 1)))) (1000 ∷ 1001 ∷ []) ≡ true ∷ false ∷ []
 unfolding isSound
 shorter-in-1 = refl
 
@@ -274,8 +276,8 @@ odd-but-sound :
     (withControl crowded (steered 1 4 30000000 1000000 0 0)
     ∷ withControl crowded (steered 2 1 600001 1 0 0)
     ∷ withControl good (steered 3 4 600000 0 0 0)
-    ∷ withClock crowded (clockAt 60000100 3)
-    ∷ withLast crowded (lastAt 0 0 0)
+    ∷ upToDate (withClock crowded (clockAt 60000100 3))
+    ∷ upToDate (withLast crowded (lastAt 0 0 0))
     ∷ withWay 1 crowded
     ∷ [])
     ≡ true ∷ true ∷ true ∷ true ∷ true ∷ true ∷ []

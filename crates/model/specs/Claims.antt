@@ -6,7 +6,7 @@ use mathlib.Core.Bool.{true, false}
 use mathlib.Core.List.{List, [], _∷_, _++_, map}
 use lib.Dec.{eqb}
 use lib.ListN.{length}
-use Rattle.control.specs.Owed.{spare, quiet, claimsCeiling}
+use Rattle.control.specs.Owed.{spare, leastGap, second, quiet, claimsCeiling}
 use Rattle.model.specs.declared.Packet.{Packet}
 use Rattle.model.specs.declared.Last.{Last}
 use Rattle.model.specs.declared.Answer.{Answer}
@@ -16,8 +16,10 @@ use Rattle.model.specs.Fours.{each, howMany}
 use Rattle.model.specs.Calls.{Call, poll, Making, isRefused}
 use Rattle.model.specs.State.{Status, View, sound}
 use Rattle.model.specs.Gate.{make, call}
-use Rattle.model.specs.Journal.{Entry, Admission, Way, expiry, displacement, admission, Departure}
-use Rattle.model.specs.Journal.{Journal, opened, turned, atPoll, top, journalOf, airTime}
+use Rattle.model.specs.declared.Admission.{Admission}
+use Rattle.model.specs.Journal.{Entry, Way, expiry, displacement, admission, Departure}
+use Rattle.model.specs.Journal.{Journal, opened, turned, atPoll, top, journalOf, airTime, airIn}
+use Rattle.model.specs.Journal.{lastSecond}
 
 -- the state after a list of calls
 unfoldable pub viewAfter : {h : Holding} → Status h → List Call → Status h
@@ -52,6 +54,16 @@ abbrev pub Newest : Last → List Admission → Type 0
 Newest last [] = eqb (last .admitted) 1 ≡ false
 Newest last (a ∷ l) = (eqb (last .admitted) 1 ≡ true) × (last .at ≡ a .at) × (last .ontime ≡ a .ontime)
 
+-- "sum to at most 30,000" (document 02, W-207)
+abbrev pub mostInSecond : ℕ
+mostInSecond = 30000
+
+-- "gaps of at least 25,000 µs" (document 02, W-207): each so long after the one before it, the newest first
+abbrev pub Apart : List Admission → Type 0
+Apart [] = Unit {0}
+Apart (a ∷ []) = Unit {0}
+Apart (b ∷ a ∷ l) = (a .at + leastGap ≤ b .at) × Apart (a ∷ l)
+
 -- at the end of a run of a profile, where one more poll may come
 pub record Claims (profile : ℕ) (v : View) (j : Journal) : Type 0 where
   -- no call of a run meets NO-STATE
@@ -75,6 +87,12 @@ pub record Claims (profile : ℕ) (v : View) (j : Journal) : Type 0 where
   -- the ceiling: "in any window of W µs, 100 x air time admitted ≤ 3 W + 400,000"
   pub ceiling : claimsCeiling profile ≡ true
       → (from w : ℕ) → 100 * airTime from w (j .admissions) ≤ 3 * w + spare
+  -- "the admissions of the last second in the state" (document 02, W-207)
+  pub ledger : v .ledger ≡ lastSecond (j .time) (j .admissions)
+  -- "gaps of at least 25,000 µs"
+  pub apart : Apart (j .admissions)
+  -- "on-times admitted in any half-open stretch of 1,000,000 µs sum to at most 30,000"
+  pub in-any-second : (from : ℕ) → airIn from (from + second) (j .admissions) ≤ mostInSecond
   -- the floor: an accepted poll that finds an unexpired packet, the quiet time or more after every earlier
   -- admission, sends
   pub floor : (stamp : ℕ) → isRefused (call v (poll stamp) .answer) ≡ false

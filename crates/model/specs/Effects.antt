@@ -1,7 +1,7 @@
 -- What an accepted call does (document 01, "The clock", "Samples", "Waiting and leaving").
-use Prim.Native.Nat.{ℕ, _+_, _-_}
-use mathlib.Core.Bool.{Bool, cond, _&&_}
-use mathlib.Core.List.{List}
+use Prim.Native.Nat.{ℕ, _+_, _-_, max}
+use mathlib.Core.Bool.{Bool, cond, not, _&&_}
+use mathlib.Core.List.{List, [], _∷_, _++_}
 use lib.Dec.{leb, ltb, eqb}
 use Rattle.rules.specs.Clock.{stepOf}
 use Rattle.rules.specs.Profiles.{room}
@@ -9,13 +9,16 @@ use Rattle.rules.specs.Samples.{probes, busyOf, loadOf}
 use Rattle.control.specs.Control.{sampled}
 use Rattle.control.specs.Wait.{closedAfter}
 use Rattle.model.specs.declared.Packet.{Packet}
+use Rattle.model.specs.declared.Admission.{Admission}
 use Rattle.model.specs.declared.Clock.{Clock}
 use Rattle.model.specs.declared.Counts.{Counts}
 use Rattle.model.specs.declared.Answer.{Answer}
 use Rattle.model.specs.declared.Answer.the-variants.{Taken, Sent, Idle, Closed}
 use Rattle.model.specs.Packets.{packetOf, Chosen, nothing, chosen, Holding}
 use Rattle.model.specs.Calls.{Call, words, count, offer, poll}
-use Rattle.model.specs.State.{Status, withClock, withControl, withLast, withCounts, withWaiting}
+use Rattle.model.specs.Ledger.{young, airAllows, allowedFrom}
+use Rattle.model.specs.State.{Status, withClock, withControl, withLast, withLedger, withCounts}
+use Rattle.model.specs.State.{withWaiting}
 
 -- "Each call .. hands the next one back": the next state, and the answer
 pub record Result (h : Holding) : Type 0 where
@@ -30,9 +33,13 @@ result v a = record { view = v; answer = a }
 abbrev pub stepped : Clock → (stamp : ℕ) → Clock
 stepped c stamp = record { time = c .time + stepOf stamp (c .stamp); stamp = stamp }
 
--- "moves the clock"
+-- without the admissions "that have reached 1,000,000 µs of age" (document 02, W-207)
+abbrev pub aged : {h : Holding} → Status h → Status h
+aged v = withLedger v (young (v .clock .time) (v .ledger))
+
+-- "moves the clock"; "Every accepted call, samples too, drops admissions" that have aged (document 02, W-207)
 abbrev pub moved : {h : Holding} → Status h → (stamp : ℕ) → Status h
-moved v stamp = withClock v (stepped (v .clock) stamp)
+moved v stamp = aged (withClock v (stepped (v .clock) stamp))
 
 -- "A sample expires nothing."
 abbrev pub sampledBy : {h : Holding} → Status h → (stamp busy : ℕ) → Status h
@@ -101,18 +108,35 @@ sinceLast v = v .clock .time - v .last .at
 unfoldable pub closed : {h : Holding} → Status h → Bool
 closed v = eqb (v .last .admitted) 1 && ltb (sinceLast v) (closedFor v)
 
--- "which leaves its queue and is recorded as the last admission"
+-- what is left of the wait
+abbrev pub waitLeft : {h : Holding} → Status h → ℕ
+waitLeft v = cond (closed v) (closedFor v - sinceLast v) 0
+
+-- what is left until the air allows a packet (document 02, W-207)
+abbrev pub airLeft : {h : Holding} → Status h → Packet → ℕ
+airLeft v p = allowedFrom (p .ontime) (v .clock .time) (v .ledger) - v .clock .time
+
+-- "A packet is sent only if its on-time plus all on-times admitted in the 1,000,000 µs up to and including
+-- now .. is at most 30,000" (document 02, W-207), and the wait is over
+abbrev pub maySend : {h : Holding} → Status h → Packet → Bool
+maySend v p = not (closed v) && airAllows (p .ontime) (v .ledger)
+
+-- "which leaves its queue and is recorded as the last admission", the newest of the ledger
 abbrev pub admits : {h : Holding} → Status h → Packet → h .Held → Status h
 admits v p left =
     withCounts
+    (withLedger
     (withLast (withWaiting v left) (record { at = v .clock .time; ontime = p .ontime; admitted = 1 }))
+    (v .ledger ++ (record { at = v .clock .time; ontime = p .ontime } ∷ [])))
     (oneSent (v .counts))
 
--- "A poll answers": IDLE, else CLOSED with the µs left, else SENT
+-- "A poll answers": IDLE, else SENT, else CLOSED with "the smallest further wait after which that packet
+-- would go" (document 02, W-207): the greater of the two
 abbrev pub polled : {h : Holding} → Status h → Chosen (h .Held) → Result h
 polled v nothing = result v Idle
 polled v (chosen p left) =
-    cond (closed v) (result v (Closed (closedFor v - sinceLast v))) (result (admits v p left) (Sent p))
+    cond (maySend v p) (result (admits v p left) (Sent p))
+    (result v (Closed (max (waitLeft v) (airLeft v p))))
 
 -- what each call does that is not refused
 unfoldable pub effect : {h : Holding} → Status h → Call → Result h

@@ -1,22 +1,24 @@
 -- The gate: the first check that holds is the answer, else the call's effect (document 01, "Refusal
 -- numbers").
-use Prim.Native.Nat.{ℕ}
+use Prim.Native.Nat.{ℕ, _+_, _≤_}
 use mathlib.Core.Path.{_≡_}
 use mathlib.Core.Bool.{Bool, true, not, cond, _&&_}
 use mathlib.Core.List.{List, [], _∷_, _++_}
 use lib.Dec.{ltb, leb, eqb}
+use lib.ListN.{length}
 use Rattle.rules.specs.Profiles.{isProfile, lastPriority, ontimeAllowed, lifetimeAllowed, room, mostOffers}
 use Rattle.rules.specs.Clock.{stepOf, goesBack, passesEnd}
 use Rattle.rules.specs.Samples.{goodWords, badCount}
 use Rattle.rules.specs.Refusals.{Check, check, firstOf, FirstHolds}
 use Rattle.model.specs.declared.Clock.{Clock}
 use Rattle.model.specs.declared.Offer.{Offer}
-use Rattle.model.specs.declared.Answer.the-variants.{Ready, Refused}
+use Rattle.model.specs.declared.Answer.the-variants.{Ready, Closed, Refused}
 use Rattle.model.specs.Packets.{Holding}
 use Rattle.model.specs.Queues.{inQueues}
-use Rattle.model.specs.Calls.{Call, words, count, offer, poll, stampOf, Making, isRefused}
-use Rattle.model.specs.State.{Status, fresh, notLive, sound}
-use Rattle.model.specs.Effects.{Result, result, stepped, refreshed, effect}
+use Rattle.model.specs.Calls.{Call, words, count, offer, poll, stampOf, Making, isSent, isRefused}
+use Rattle.model.specs.Ledger.{places}
+use Rattle.model.specs.State.{Status, withClock, fresh, notLive, sound}
+use Rattle.model.specs.Effects.{Result, result, stepped, aged, refreshed, polled, effect}
 
 -- 5 BAD-PRIORITY, 6 BAD-ON-TIME, 7 BAD-LIFETIME: an offer's own numbers
 abbrev pub numberChecks : (profile : ℕ) → Offer → List Check
@@ -88,3 +90,19 @@ RefusalsAreExact h =
 -- a call leaves a sound state sound
 abbrev pub CallsKeepSound : Holding → Type 0
 CallsKeepSound h = (v : Status h) (c : Call) → sound v ≡ true → sound (call v c .view) ≡ true
+
+-- "40 are enough" (document 02, W-207): no sound state has more in its ledger
+abbrev pub FortyAreEnough : Holding → Type 0
+FortyAreEnough h = (v : Status h) → sound v ≡ true → length (v .ledger) ≤ places
+
+-- a state so many µs later, "if no sample, offer or expiry came between and the clock had no end"
+abbrev pub waited : {h : Holding} → Status h → (d : ℕ) → Status h
+waited v d = aged (withClock v (record { time = v .clock .time + d; stamp = v .clock .stamp }))
+
+-- "CLOSED reports the smallest further wait after which that packet would go" (document 02, W-207): d µs
+-- later the poll of that packet sends exactly if d is at least the number
+abbrev pub ClosedIsLeast : Holding → Type 0
+ClosedIsLeast h =
+    (v : Status h) (stamp n : ℕ) → call v (poll stamp) .answer ≡ Closed n
+    → (d : ℕ)
+    → isSent (polled (waited (refreshed v stamp) d) (h .next (refreshed v stamp .waiting)) .answer) ≡ leb n d

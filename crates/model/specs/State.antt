@@ -10,10 +10,12 @@ use Rattle.rules.specs.Clock.{endOfTime}
 use Rattle.control.specs.Control.{Control, freshControl, noControl, soundControl}
 use Rattle.model.specs.declared.Clock.{Clock}
 use Rattle.model.specs.declared.Last.{Last}
+use Rattle.model.specs.declared.Admission.{Admission}
 use Rattle.model.specs.declared.Counts.{Counts}
 use Rattle.model.specs.Packets.{Holding}
 use Rattle.model.specs.Queues.{inQueues}
 use Rattle.model.specs.Calls.{Making}
+use Rattle.model.specs.Ledger.{ledgerRules}
 
 -- "A state holds: whether it is live, profile, last stamp, running time, .."; live is 1 or 0, as every
 -- yes-or-no of it
@@ -24,6 +26,8 @@ pub record Status (h : Holding) : Type 0 where
   pub clock : Clock
   pub control : Control
   pub last : Last
+  -- "the admissions of the last second" (document 02, W-207), the oldest first
+  pub ledger : List Admission
   pub counts : Counts
   pub waiting : h .Held
 
@@ -33,14 +37,15 @@ View = Status inQueues
 
 -- the one builder of a state
 abbrev pub statusFrom :
-    {h : Holding} → (live oldway : ℕ) → Clock → Control → Last → Counts → h .Held → Status h
-statusFrom live oldway clock control last counts waiting =
+    {h : Holding} → (live oldway : ℕ) → Clock → Control → Last → List Admission → Counts → h .Held → Status h
+statusFrom live oldway clock control last ledger counts waiting =
     record {
       live = live;
       oldway = oldway;
       clock = clock;
       control = control;
       last = last;
+      ledger = ledger;
       counts = counts;
       waiting = waiting;
     }
@@ -48,23 +53,27 @@ statusFrom live oldway clock control last counts waiting =
 -- a state with one group changed
 abbrev pub withClock : {h : Holding} → Status h → Clock → Status h
 withClock v clock =
-    statusFrom (v .live) (v .oldway) clock (v .control) (v .last) (v .counts) (v .waiting)
+    statusFrom (v .live) (v .oldway) clock (v .control) (v .last) (v .ledger) (v .counts) (v .waiting)
 
 abbrev pub withControl : {h : Holding} → Status h → Control → Status h
 withControl v control =
-    statusFrom (v .live) (v .oldway) (v .clock) control (v .last) (v .counts) (v .waiting)
+    statusFrom (v .live) (v .oldway) (v .clock) control (v .last) (v .ledger) (v .counts) (v .waiting)
 
 abbrev pub withLast : {h : Holding} → Status h → Last → Status h
 withLast v last =
-    statusFrom (v .live) (v .oldway) (v .clock) (v .control) last (v .counts) (v .waiting)
+    statusFrom (v .live) (v .oldway) (v .clock) (v .control) last (v .ledger) (v .counts) (v .waiting)
+
+abbrev pub withLedger : {h : Holding} → Status h → List Admission → Status h
+withLedger v ledger =
+    statusFrom (v .live) (v .oldway) (v .clock) (v .control) (v .last) ledger (v .counts) (v .waiting)
 
 abbrev pub withCounts : {h : Holding} → Status h → Counts → Status h
 withCounts v counts =
-    statusFrom (v .live) (v .oldway) (v .clock) (v .control) (v .last) counts (v .waiting)
+    statusFrom (v .live) (v .oldway) (v .clock) (v .control) (v .last) (v .ledger) counts (v .waiting)
 
 abbrev pub withWaiting : {h : Holding} → Status h → h .Held → Status h
 withWaiting v waiting =
-    statusFrom (v .live) (v .oldway) (v .clock) (v .control) (v .last) (v .counts) waiting
+    statusFrom (v .live) (v .oldway) (v .clock) (v .control) (v .last) (v .ledger) (v .counts) waiting
 
 -- "nothing admitted"
 abbrev pub noLast : Last
@@ -77,7 +86,7 @@ noCounts = record { accepted = 0; sent = 0; expired = 0; displaced = 0 }
 
 -- nothing admitted, counted or waiting
 abbrev pub blank : {h : Holding} → (live oldway : ℕ) → Clock → Control → Status h
-blank {h} live oldway clock control = statusFrom live oldway clock control noLast noCounts (h .none)
+blank {h} live oldway clock control = statusFrom live oldway clock control noLast [] noCounts (h .none)
 
 -- "A fresh state: live, last stamp as given to make, running time 0, .., nothing admitted, queues empty."
 abbrev pub fresh : {h : Holding} → Making → Status h
@@ -111,6 +120,7 @@ statusRules {h} v =
     ∷ allOf (lastRules (v .control .profile) (v .clock .time) (v .last))
     ∷ h .fits (v .control .profile) (v .clock .time) (v .waiting)
     ∷ allOf (countRules (h .total (v .waiting)) (v .counts))
+    ∷ allOf (ledgerRules (v .control .profile) (v .clock .time) (v .last) (v .ledger))
     ∷ []
 
 -- "A state is sound if" every rule holds

@@ -19,11 +19,31 @@ pub struct Queue {
     pub slots: [Packet; 5],
 }
 
+/// The admissions of the last second, laid out as the archive's.
+#[derive(Clone, Copy, PartialEq, Eq, Debug)]
+#[repr(C)]
+pub struct Ledger {
+    pub len: usize,
+    pub ats: [u64; 40],
+    pub ontimes: [u32; 40],
+}
+
+impl Default for Ledger {
+    fn default() -> Ledger {
+        Ledger {
+            len: 0,
+            ats: [0; 40],
+            ontimes: [0; 40],
+        }
+    }
+}
+
 /// A gate's state, laid out as the archive's.
 #[derive(Clone, Copy, Default, PartialEq, Eq, Debug)]
 #[repr(C)]
 pub struct State {
     pub queues: [Queue; 4],
+    pub ledger: Ledger,
     pub time: u64,
     pub stamp: u32,
     pub gap: u32,
@@ -56,6 +76,8 @@ pub enum Answer {
 
 const END: u64 = 1_000_000_000_000_000;
 const MOST_OFFERS: u64 = 1_000_000_000_000_000;
+const SECOND: u64 = 1_000_000;
+const MOST_AIR: u32 = 30_000;
 
 fn most_ontime(profile: u32) -> u32 {
     match profile {
@@ -130,6 +152,69 @@ impl Queue {
     }
 }
 
+impl Ledger {
+    /// `last` is the last admission, if there is one.
+    fn is_sound(&self, most: u32, now: u64, last: Option<(u64, u32)>) -> bool {
+        let n = self.len;
+        if n > 40 {
+            return false;
+        }
+        let mut earliest = 0;
+        let mut air = 0;
+        for (&at, &ontime) in self.ats[..n].iter().zip(&self.ontimes[..n]) {
+            if at < earliest || at > now || now - at >= SECOND || !(1..=most).contains(&ontime) {
+                return false;
+            }
+            earliest = at + 25_000;
+            air += ontime;
+        }
+        let newest = match last {
+            Some((at, ontime)) if now - at < SECOND => {
+                n > 0 && self.ats[n - 1] == at && self.ontimes[n - 1] == ontime
+            }
+            _ => n == 0,
+        };
+        // Unused room is read to its end, many numbers at once: faster than to stop at the first that isn't zero.
+        let ats = self.ats[n..].iter().fold(0, |bits, at| bits | at);
+        let ontimes = self.ontimes[n..].iter().fold(0, |bits, o| bits | o);
+        air <= MOST_AIR && newest && ats == 0 && ontimes == 0
+    }
+
+    fn drop_aged(&mut self, now: u64) {
+        let n = self.len;
+        let held = self.ats[..n].iter();
+        let aged = held.take_while(|&&at| now - at >= SECOND).count();
+        if aged > 0 {
+            self.ats.copy_within(aged..n, 0);
+            self.ontimes.copy_within(aged..n, 0);
+            self.ats[n - aged..n].fill(0);
+            self.ontimes[n - aged..n].fill(0);
+            self.len = n - aged;
+        }
+    }
+
+    fn push(&mut self, at: u64, ontime: u32) {
+        self.ats[self.len] = at;
+        self.ontimes[self.len] = ontime;
+        self.len += 1;
+    }
+
+    /// The µs until a packet fits into the second.
+    fn air_left(&self, ontime: u32, now: u64) -> u64 {
+        let n = self.len;
+        let mut air = ontime + self.ontimes[..n].iter().sum::<u32>();
+        let mut from = now;
+        for (&at, &ontime) in self.ats[..n].iter().zip(&self.ontimes[..n]) {
+            if air <= MOST_AIR {
+                break;
+            }
+            from = at + SECOND;
+            air -= ontime;
+        }
+        from - now
+    }
+}
+
 impl State {
     pub fn new(profile: u32, oldway: u32, stamp: u32) -> State {
         State {
@@ -167,7 +252,12 @@ impl State {
         tuning
             && last
             && (0..4).all(|k| self.queues[k].is_sound(k as u32, most, self.time))
+            && self.ledger.is_sound(most, self.time, self.last())
             && self.adds_up()
+    }
+
+    fn last(&self) -> Option<(u64, u32)> {
+        (self.admitted == 1).then_some((self.at, self.ontime))
     }
 
     /// Whether accepted is sent, expired, displaced and waiting together, the queues being sound.
@@ -196,6 +286,7 @@ impl State {
     fn move_to(&mut self, now: u64, stamp: u32) {
         self.time = now;
         self.stamp = stamp;
+        self.ledger.drop_aged(now);
     }
 
     fn clear(&mut self, now: u64, stamp: u32) {
@@ -310,13 +401,15 @@ impl State {
         let Some(k) = self.queues.iter().position(|q| q.len > 0) else {
             return Answer::Idle;
         };
+        let mut left = self.ledger.air_left(self.queues[k].slots[0].ontime, now);
         if self.admitted == 1 {
-            let (closed, passed) = (self.closed_for(), now - self.at);
-            if passed < closed {
-                return Answer::Closed(closed - passed);
-            }
+            left = left.max(self.closed_for().saturating_sub(now - self.at));
+        }
+        if left > 0 {
+            return Answer::Closed(left);
         }
         let p = self.queues[k].pop();
+        self.ledger.push(now, p.ontime);
         self.sent += 1;
         self.admitted = 1;
         self.at = now;

@@ -2,11 +2,13 @@
 
 use std::io::{self, BufWriter, StdoutLock, Write};
 
+use reference::book::STRETCH_MOST;
+
 use crate::args::CheckWish;
 use crate::fault::Fault;
 use crate::follow::{follow, refusal_name, size, Hearer, Row, Run};
 use crate::text::{count, grouped, seconds, span};
-use crate::watch::{Wait, SECOND};
+use crate::watch::Wait;
 
 /// So many runs are told in full; of more, only those that were not kept.
 const TOLD_IN_FULL: u64 = 20;
@@ -132,36 +134,26 @@ fn counts(run: &Run) -> String {
 }
 
 fn ceiling(run: &Run, lines: &mut Vec<(&'static str, String)>) {
-    let (Some(window), Some((air, at))) = (run.watch.closest, run.watch.fullest_second) else {
-        lines.push(("Ceiling", "KEPT: nothing was sent".to_string()));
+    let (Some(closest), Some(fullest)) = (run.watch.closest, run.watch.fullest) else {
+        lines.push(("Ceiling", "KEPT: nothing was sent.".to_string()));
         return;
     };
-    let most = (3 * SECOND + 400_000) / 100;
     lines.push((
         "Ceiling",
         format!(
-            "KEPT. Most air time in any second: {} of {}, up to {} s.",
-            span(air),
-            span(most),
-            seconds(at)
+            "KEPT. Closest call: {}, with {} of the {} allowed.",
+            closest.place(),
+            span(closest.air),
+            span(closest.allowed())
         ),
     ));
-    let alone = window.from == window.to;
-    let place = if alone {
-        format!("one packet at {} s", seconds(window.to))
-    } else {
-        format!(
-            "the {} from {} s on",
-            span(window.to - window.from),
-            seconds(window.from)
-        )
-    };
     lines.push((
-        "",
+        "Second",
         format!(
-            "Closest call: {place}, with {} of the {} allowed.",
-            span(window.air),
-            span(window.allowed())
+            "KEPT. Closest call: {}, with {} of the {} allowed in any second.",
+            fullest.place(),
+            span(fullest.air),
+            span(STRETCH_MOST)
         ),
     ));
 }
@@ -193,6 +185,7 @@ fn turn(run: &Run, lines: &mut Vec<(&'static str, String)>) {
     let most = run.book.closest().most_seen;
     let seen = match most {
         0 => "no packet of priority 0 saw another go first".to_string(),
+        1 => "a packet of priority 0 saw 1 other go first, which came before it".to_string(),
         most => format!(
             "a packet of priority 0 saw {} others go first, which came before it",
             grouped(most)

@@ -3,7 +3,7 @@
 //! level and duty, its answers are what is right, and its counts must be the
 //! book's.
 
-use reference::book::Book;
+use reference::book::{Book, APART, STRETCH_MOST};
 use reference::calls::SPENT;
 use reference::gate::{Answer, Call};
 use reference::log::{read, step, LogCall, Record};
@@ -166,6 +166,7 @@ impl Follower {
                     let judged = run.judge(record, said, right, &mut sent);
                     // The book's own counts add up: it has looked at that itself.
                     let judged = judged.and_then(|()| run.book.compare(&self.state.counts));
+                    let judged = judged.and_then(|()| run.book.compare_ledger(&self.state.ledger));
                     wrong = judged.err().map(|text| placed(number, record, &text));
                     run.wrong.clone_from(&wrong);
                 }
@@ -284,6 +285,17 @@ impl Run {
                     span(window.allowed())
                 )
             }
+            (text, Some(_)) if text.starts_with("second") => format!(
+                "second: {} admitted in the second up to {} s, where {} is allowed",
+                span(self.book.on_air()),
+                seconds(self.book.time()),
+                span(STRETCH_MOST)
+            ),
+            (text, Some(_)) if text.starts_with("gap") => format!(
+                "gap: {} after the packet before, where {} are due",
+                span(self.watch.since_last(self.book.time())),
+                span(APART)
+            ),
             _ => text.to_string(),
         }
     }
@@ -379,7 +391,7 @@ pub fn size(whole: &Whole) -> String {
 #[cfg(test)]
 mod tests {
     use super::*;
-    use crate::watch::SECOND;
+    use reference::book::STRETCH;
     use reference::rng::Rng;
 
     /// Keeps the admissions, to count what the watch counts as it goes.
@@ -404,11 +416,14 @@ mod tests {
                 let inside = sent.iter().filter(|(at, _)| (from..=to).contains(at));
                 inside.map(|(_, ontime)| ontime).sum()
             };
-            let fullest = sent
-                .iter()
-                .map(|(at, _)| air(at.saturating_sub(SECOND), *at))
-                .max();
-            assert_eq!(run.watch.fullest_second.map(|(most, _)| most), fullest);
+            // From each admission on, for less than a second.
+            let stretches = sent.iter().map(|(at, _)| air(*at, at + STRETCH - 1));
+            let fullest = run.watch.fullest;
+            assert_eq!(fullest.map(|fullest| fullest.air), stretches.max());
+            if let Some(window) = fullest {
+                assert!(window.to - window.from < STRETCH);
+                assert_eq!(window.air, air(window.from, window.to));
+            }
             let mut least = None;
             for (at, (from, _)) in sent.iter().enumerate() {
                 for (to, _) in &sent[at..] {

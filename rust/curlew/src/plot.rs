@@ -2,6 +2,7 @@
 
 use std::collections::VecDeque;
 
+use reference::book::{STRETCH, STRETCH_MOST};
 use reference::rules;
 
 use crate::fault::Fault;
@@ -10,7 +11,6 @@ use crate::plain::{way, whole_file};
 use crate::stream::Said;
 use crate::svg::{Anchor, Svg, Trace};
 use crate::text::{count, grouped, span};
-use crate::watch::SECOND;
 
 /// What `curlew plot` was asked for.
 pub struct PlotWish {
@@ -156,8 +156,9 @@ const DISPLACED: f64 = 680.0;
 const LANE: f64 = 32.0;
 const LANE_HEIGHT: f64 = 28.0;
 
-/// The most air time in any second, in ms: (3 × 1,000,000 + 400,000) / 100 µs.
-const CEILING_MS: f64 = 34.0;
+/// The most air time in any second, in ms, and the top of its panel.
+const CEILING_MS: f64 = STRETCH_MOST as f64 / 1e3;
+const AIR_MOST: f64 = 33.0;
 
 /// No more dots than this are drawn on the line of the load.
 const DOTS: f64 = 120.0;
@@ -394,20 +395,20 @@ impl Drawing {
         }
     }
 
-    /// The sliding second: a packet falls out just after it is a second old.
+    /// The sliding second: a packet falls out once it is a second old.
     fn slide(&mut self, now: u64) {
         while let Some((at, ontime)) = self.second.front().copied() {
-            if now - at <= SECOND {
+            if now - at < STRETCH {
                 break;
             }
             self.second.pop_front();
             self.second_air -= u64::from(ontime);
-            self.draw_air(at + SECOND);
+            self.draw_air(at + STRETCH);
         }
     }
 
     fn draw_air(&mut self, at: u64) {
-        let y = height(AIR, self.second_air as f64 / 1e3, 36.0);
+        let y = height(AIR, self.second_air as f64 / 1e3, AIR_MOST);
         let x = self.x(at);
         self.air.step(x, y);
     }
@@ -668,13 +669,13 @@ impl Drawing {
 
     fn air_panel(&mut self, svg: &mut Svg) {
         heading(svg, AIR, "Air time in the second before (ms)");
-        scale(svg, AIR, 36.0, &[0.0, 10.0, 20.0, 30.0], 0);
-        let y = height(AIR, CEILING_MS, 36.0);
+        scale(svg, AIR, AIR_MOST, &[0.0, 10.0, 20.0, 30.0], 0);
+        let y = height(AIR, CEILING_MS, AIR_MOST);
         svg.line((LEFT, y), (RIGHT, y), "limit");
         limit_name(
             svg,
             AIR,
-            "ceiling, guaranteed: never above 34 ms in any second",
+            "ceiling, guaranteed: never above 30 ms in any second",
         );
         self.slide(self.to);
         self.air.level(RIGHT);

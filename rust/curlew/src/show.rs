@@ -105,18 +105,19 @@ impl Table<'_> {
         writeln!(out, "{}, {of}", self.wish.log)?;
         writeln!(
             out,
-            "{:>6}  {:>13}  {:<43}  {:<26}  {:<33}  {:^9}  gate",
-            "", "time", "", "", "packets", "waiting"
+            "{:>6}  {:>13}  {:<43}  {:<26}  {:<33}  {:^9}  {:>9}  gate",
+            "", "time", "", "", "packets", "waiting", "air in"
         )?;
         writeln!(
             out,
-            "{:>6}  {:>13}  {:<43}  {:<26}  {}  {:^9}  level or duty, wait",
+            "{:>6}  {:>13}  {:<43}  {:<26}  {}  {:^9}  {:>9}  level or duty, wait",
             "record",
             "(s)",
             "call",
             "answer",
             four(["accepted", "sent", "expired", "displaced"]),
-            "0 1 2 3"
+            "0 1 2 3",
+            "last 1 s"
         )?;
         Ok(())
     }
@@ -134,17 +135,17 @@ impl Hearer for Table<'_> {
             return Ok(());
         }
         self.shown += 1;
-        let (mut time, mut waiting) = (String::new(), String::new());
+        let (mut time, mut waiting, mut air) = (String::new(), String::new(), String::new());
         let mut packets = four([""; 4]);
         if let Some(run) = row.run {
             time = seconds(run.book.time());
-            (packets, waiting) = match run.wrong {
-                None => (counts(run), lengths(run)),
-                Some(_) => (four(["?"; 4]), "? ? ? ?".to_string()),
+            (packets, waiting, air) = match run.wrong {
+                None => (counts(run), lengths(run), span(run.book.on_air())),
+                Some(_) => (four(["?"; 4]), "? ? ? ?".to_string(), "?".to_string()),
             };
         }
         let line = format!(
-            "{:>6}  {:>13}  {:<43}  {:<26}  {packets}  {:^9}  {}",
+            "{:>6}  {:>13}  {:<43}  {:<26}  {packets}  {:^9}  {air:>9}  {}",
             grouped(row.number),
             time,
             call(&row.record),
@@ -220,13 +221,24 @@ fn call(record: &Record) -> String {
     }
 }
 
-/// An answer, its number explained; behind it the packet that was displaced.
+/// An answer, its number explained; behind it the packet that was displaced, or
+/// that it is the second and not the wait that keeps the gate closed.
 fn answer(row: &Row) -> String {
     match (row.said, row.displaced) {
         (Said::Refused(number), _) => format!("REFUSED {number} {}", refusal_name(number)),
         (said, Some(packet)) => format!("{}, displaced {}", said.line(), packet.id),
+        (Said::Closed(left), None) if wait_left(row.state).is_some_and(|wait| left > wait) => {
+            format!("{}, second full", row.said.line())
+        }
         (said, None) => said.line(),
     }
+}
+
+/// What is left of the wait, if something was admitted.
+fn wait_left(state: &State) -> Option<u64> {
+    let last = state.last()?;
+    let closed = rules::closed_for(state.profile, state.level, state.duty, last.ontime)?;
+    Some(closed.saturating_sub(state.time - last.at))
 }
 
 /// The level or the duty, and the wait that it asks for.

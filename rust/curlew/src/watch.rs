@@ -6,10 +6,7 @@ use reference::book::{Book, Entry, CEILING_BASE, CEILING_SLOPE};
 use reference::gate::Call;
 use reference::state::Packet;
 
-use crate::text::span;
-
-/// The sliding second, in µs.
-pub const SECOND: u64 = 1_000_000;
+use crate::text::{seconds, span};
 
 /// A window of the run, and the air time admitted in it.
 #[derive(Clone, Copy, Debug, PartialEq, Eq)]
@@ -27,6 +24,15 @@ impl Window {
     pub fn slack(&self) -> i128 {
         let width = i128::from(self.to - self.from);
         CEILING_SLOPE * width + CEILING_BASE - 100 * i128::from(self.air)
+    }
+
+    /// Where it is, in words.
+    pub fn place(&self) -> String {
+        if self.from == self.to {
+            return format!("one packet at {} s", seconds(self.to));
+        }
+        let width = span(self.to - self.from);
+        format!("the {width} from {} s on", seconds(self.from))
     }
 
     /// The air time that the ceiling allows in it, in whole µs.
@@ -78,11 +84,8 @@ pub struct Watch {
     pub closest: Option<Window>,
     /// The window that ends at the last admission and has the smallest slack.
     tightest: Option<Window>,
-    /// The admissions of the last second, and their air time.
-    second: VecDeque<(u64, u32)>,
-    second_air: u64,
-    /// The most air time in any second, and when that second ended.
-    pub fullest_second: Option<(u64, u64)>,
+    /// The window of less than a second that has the most air time.
+    pub fullest: Option<Window>,
     /// The longest time that something waited before anything was sent, and
     /// when that was.
     pub longest_hold: Option<(u64, u64)>,
@@ -116,7 +119,6 @@ impl Watch {
         book: &Book,
     ) -> Result<(), String> {
         let now = book.time();
-        self.forget_before(now);
         match call {
             Call::SampleCount { .. } | Call::SampleWords { .. } => {
                 self.samples += 1;
@@ -127,6 +129,7 @@ impl Watch {
         }
         if let Some(packet) = sent {
             self.admitted(now, packet.ontime);
+            self.see_second(book);
         }
         self.see_hold(now, sent.is_some(), book);
         let delivered = self.see_priority_0(now, sent, book);
@@ -134,17 +137,6 @@ impl Watch {
             self.last_poll = Some(now);
         }
         delivered
-    }
-
-    /// Admissions of more than a second ago are out of the sliding second.
-    fn forget_before(&mut self, now: u64) {
-        while let Some((at, ontime)) = self.second.front() {
-            if now - at <= SECOND {
-                break;
-            }
-            self.second_air -= u64::from(*ontime);
-            self.second.pop_front();
-        }
     }
 
     /// The tightest window that would end at an admission now: the admission
@@ -166,16 +158,23 @@ impl Watch {
             .unwrap_or(alone)
     }
 
+    /// The sliding second that ends with the admission just made.
+    fn see_second(&mut self, book: &Book) {
+        let air = book.on_air();
+        let fuller = self.fullest.is_none_or(|fullest| air > fullest.air);
+        if let (true, Some(first)) = (fuller, book.stretch().front()) {
+            let (from, to) = (first.at, book.time());
+            self.fullest = Some(Window { from, to, air });
+        }
+    }
+
+    /// The time from the last admission seen up to now.
+    pub fn since_last(&self, now: u64) -> u64 {
+        self.tightest.map_or(now, |window| now - window.to)
+    }
+
     /// An admission now.
     fn admitted(&mut self, now: u64, ontime: u32) {
-        self.second.push_back((now, ontime));
-        self.second_air += u64::from(ontime);
-        if self
-            .fullest_second
-            .is_none_or(|(most, _)| self.second_air > most)
-        {
-            self.fullest_second = Some((self.second_air, now));
-        }
         let tightest = self.tightest_with(now, ontime);
         self.tightest = Some(tightest);
         if self

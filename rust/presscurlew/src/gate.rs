@@ -100,8 +100,8 @@ pub enum Answer {
     Idle,
     /// The gate is closed.
     Closed {
-        /// The µs left until it opens, unless a sample changes the wait: at most 1,001,000 in profile 1,
-        /// 1,000,500 in profile 2 and 1,000,000 in profile 3.
+        /// The µs after which the packet that is next would go, if no sample and no offer came between and it did not
+        /// expire: at least 1, and at most 1,001,000 in profile 1, 1,000,500 in profile 2 and 1,000,000 in profile 3.
         micros: u64,
     },
 }
@@ -369,6 +369,31 @@ impl Gate {
     /// After an admission the gate is closed until the wait ([`crate::rules::wait`]) is over. In profiles 1 and 2 the
     /// wait starts when the packet is off the air, its on-time after the admission; in profile 3 with the admission.
     ///
+    /// It is closed for a packet, too, with which more than 30,000 µs would be admitted in the 1,000,000 µs up to and
+    /// including now; an admission exactly 1,000,000 µs ago is left out. So any second has at most 30 ms of on-time.
+    /// A shorter packet behind it has to wait as well.
+    ///
+    /// ```
+    /// use presscurlew::{Answer, Gate, Offer, WhenFull};
+    ///
+    /// // A quiet channel brings profile 3 to its highest duty: a packet of 4,000 µs may go each 133,334 µs.
+    /// let mut gate = Gate::new(3, WhenFull::DropOldest, 0)?;
+    /// for _ in 0..1_000 {
+    ///     gate.sample_count(0, 0)?;
+    /// }
+    /// for id in 0..7 {
+    ///     let stamp = id * 133_334;
+    ///     gate.offer(Offer { id, priority: 0, ontime: 4_000, lifetime: 60_000_000 }, stamp)?;
+    ///     assert!(matches!(gate.poll(stamp)?, Answer::Sent(_)));
+    /// }
+    /// // The eighth would make 32 ms in a second: it waits until the first is a second old.
+    /// gate.offer(Offer { id: 7, priority: 0, ontime: 4_000, lifetime: 60_000_000 }, 933_338)?;
+    /// assert_eq!(gate.poll(933_338)?, Answer::Closed { micros: 66_662 });
+    /// assert_eq!(gate.poll(999_999)?, Answer::Closed { micros: 1 });
+    /// assert!(matches!(gate.poll(1_000_000)?, Answer::Sent(_)));
+    /// # Ok::<(), presscurlew::Refusal>(())
+    /// ```
+    ///
     /// # Errors
     ///
     /// [`Refusal::ClockBack`], [`Refusal::ClockEnd`].
@@ -407,7 +432,7 @@ impl Gate {
         self.state.counts
     }
 
-    /// The state, to look at: level, duty, what waits, the running time.
+    /// The state, to look at: level, duty, what waits, the running time, the admissions of the last second.
     ///
     /// ```
     /// let mut gate = presscurlew::Gate::new(1, presscurlew::WhenFull::DropOldest, 0)?;

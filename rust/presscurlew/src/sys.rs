@@ -115,7 +115,31 @@ pub struct Clock {
     pub stamp: u32,
 }
 
-/// The last admission. Before the first one all fields are 0.
+/// The admissions of the last second, in every profile: younger than 1,000,000 µs, at least 25,000 µs apart, with at
+/// most 30,000 µs of on-time in all. The newest is the last admission while that is so young; then there is none.
+#[repr(C)]
+#[derive(Clone, Copy, Debug, PartialEq, Eq, Hash)]
+pub struct Ledger {
+    /// How many it holds, 0 to 40.
+    pub len: u64,
+    /// The running times at which the first `len` were made, the oldest first; the others are 0.
+    pub ats: [u64; 40],
+    /// The on-times of their packets in µs, in the same places; the others are 0.
+    pub ontimes: [u32; 40],
+}
+
+impl Default for Ledger {
+    /// A ledger without admissions.
+    fn default() -> Ledger {
+        Ledger {
+            len: 0,
+            ats: [0; 40],
+            ontimes: [0; 40],
+        }
+    }
+}
+
+/// The last admission, however long ago. Before the first one all fields are 0.
 #[repr(C)]
 #[derive(Clone, Copy, Debug, Default, PartialEq, Eq, Hash)]
 pub struct Last {
@@ -163,6 +187,8 @@ pub struct Tuning {
 pub struct State {
     /// The queues, by priority.
     pub queues: [Queue; 4],
+    /// The admissions of the last second.
+    pub ledger: Ledger,
     /// The clock.
     pub clock: Clock,
     /// The last admission.

@@ -15,6 +15,8 @@
 //!    waiting together.
 //! 7. W-205: a packet is displaced only by the fifth accepted offer of its own
 //!    priority after it came, or a later one.
+//! 8. W-207: on-times admitted in any half-open stretch of 1,000,000 µs sum to
+//!    at most 30,000, and admissions are at least 25,000 µs apart.
 //!
 //! So a packet leaves by expiry, by displacement, or no later than with the
 //! (k+1)th admission after it came if it is of priority 0: those are the three
@@ -22,12 +24,13 @@
 //! was made the book does not know.
 //!
 //! How often a gate refuses, and how many µs a CLOSED says, is not the book's
-//! matter. The counts of a state can be held to the book's own.
+//! matter. The counts of a state can be held to the book's own, and its ledger
+//! to the book's last second.
 
 use std::collections::VecDeque;
 
 pub use crate::calls::{Answer, Call};
-use crate::state::{Counts, Packet};
+use crate::state::{Admission, Counts, Ledger, Packet};
 
 /// The ceiling's part that does not grow with the window.
 pub const CEILING_BASE: i128 = 400_000;
@@ -36,6 +39,13 @@ pub const CEILING_BASE: i128 = 400_000;
 pub const COLUMN_ROOM: u64 = 5;
 /// The ceiling's part for each µs of the window.
 pub const CEILING_SLOPE: i128 = 3;
+
+/// W-207: the stretch that slides, in µs.
+pub const STRETCH: u64 = 1_000_000;
+/// W-207: the most on-time admitted in it, in µs.
+pub const STRETCH_MOST: u64 = 30_000;
+/// W-207: the shortest time between two admissions, in µs.
+pub const APART: u64 = 25_000;
 
 /// W-202: in this profile an admission so many µs ago no longer keeps a poll
 /// from sending. Only the three profiles have runs.
@@ -76,6 +86,8 @@ pub struct Closest {
     pub most_seen: u64,
     /// The fewest accepted offers of its own priority that displaced a packet.
     pub fewest_offers: Option<u64>,
+    /// The most on-time admitted in any half-open stretch of 1,000,000 µs.
+    pub fullest_stretch: u64,
 }
 
 /// The book of one run.
@@ -89,6 +101,7 @@ pub struct Book {
     counts: Counts,
     displaced: Option<Entry>,
     last_admission: Option<u64>,
+    stretch: VecDeque<Admission>,
     heaviest: i128,
     closest: Closest,
 }
@@ -105,6 +118,7 @@ impl Book {
             counts: Counts::default(),
             displaced: None,
             last_admission: None,
+            stretch: VecDeque::new(),
             heaviest: 0,
             closest: Closest::default(),
         }
@@ -149,6 +163,18 @@ impl Book {
     /// The time of the last admission.
     pub fn last_admission(&self) -> Option<u64> {
         self.last_admission
+    }
+
+    /// The admissions of the 1,000,000 µs up to and including the book's time,
+    /// the oldest first; one exactly 1,000,000 µs old is not among them.
+    pub fn stretch(&self) -> &VecDeque<Admission> {
+        &self.stretch
+    }
+
+    /// The on-times of those admissions, summed.
+    pub fn on_air(&self) -> u64 {
+        let ontimes = self.stretch.iter().map(|admission| admission.ontime);
+        ontimes.map(u64::from).sum()
     }
 
     /// How near the run has come to what demand 3 forbids.
@@ -196,6 +222,25 @@ impl Book {
         }
     }
 
+    /// Holds the ledger of a state to the book's last second. The book takes
+    /// nothing from it.
+    pub fn compare_ledger(&self, ledger: &Ledger) -> Result<(), String> {
+        let (state, book) = (ledger.len, self.stretch.len());
+        if state != book as u64 {
+            return Err(format!(
+                "ledger: the state has {state} admissions, the book {book}"
+            ));
+        }
+        let pairs = ledger.held().iter().zip(&self.stretch);
+        match pairs.into_iter().find(|(state, book)| state != book) {
+            Some((state, book)) => Err(format!(
+                "ledger: the state has {} µs at {}, the book {} µs at {}",
+                state.ontime, state.at, book.ontime, book.at
+            )),
+            None => Ok(()),
+        }
+    }
+
     /// W-201: accepted equals sent plus expired plus displaced plus waiting.
     fn add_up(&self) -> Result<(), String> {
         let Counts {
@@ -219,6 +264,9 @@ impl Book {
         let step = stamp.wrapping_sub(self.stamp);
         self.time += u64::from(step);
         self.stamp = stamp;
+        let time = self.time;
+        self.stretch
+            .retain(|admission| time - admission.at < STRETCH);
     }
 
     /// Strikes each packet whose time since its offer is at least its lifetime.
@@ -335,7 +383,9 @@ impl Book {
             return Err(format!("SENT {sent:?}, struck {:?}", struck.packet));
         }
         self.counts.sent += 1;
+        let before = self.last_admission;
         self.weigh(struck.packet.ontime)?;
+        self.slide(before, struck.packet.ontime)?;
         self.look_at_priority_0()
     }
 
@@ -367,6 +417,26 @@ impl Book {
             return Err(format!("ceiling: passed by {} at {}", -slack, self.time));
         }
         Ok(())
+    }
+
+    /// The half-open second, at an admission now, given the time of the one
+    /// before.
+    ///
+    /// Stretches that end with an admission are enough: any other, moved back
+    /// until its last admission is its end, keeps all that it has. What is in
+    /// one that ends now is what is less than 1,000,000 µs old, this one too.
+    fn slide(&mut self, before: Option<u64>, ontime: u32) -> Result<(), String> {
+        let at = self.time;
+        self.stretch.push_back(Admission { at, ontime });
+        let on_air = self.on_air();
+        self.closest.fullest_stretch = self.closest.fullest_stretch.max(on_air);
+        if on_air > STRETCH_MOST {
+            return Err(format!("second: {on_air} µs admitted up to {at}"));
+        }
+        match before.map(|before| at - before) {
+            Some(gap) if gap < APART => Err(format!("gap: {gap} µs between admissions")),
+            _ => Ok(()),
+        }
     }
 
     /// Notes the time between two admissions.

@@ -9,7 +9,7 @@ use crate::calls::{
     NO_STATE, QUEUE_FULL, SPENT,
 };
 use crate::rules;
-use crate::state::{sound, Packet, Queue, State, QUEUES, SLOTS};
+use crate::state::{sound, Admission, Ledger, Packet, Queue, State, QUEUES, SLOTS};
 
 /// Makes a fresh state, in the old way if that is 1 and in the new way if it
 /// is 0; a refusal hands back the all-zero, not live one.
@@ -76,9 +76,9 @@ pub fn poll(state: State, stamp: u32) -> (State, Answer) {
     let Some(packet) = first_waiting(&next) else {
         return (next, Answer::Idle);
     };
-    match time_left(&next) {
-        Some(left) => (next, Answer::Closed(left)),
-        None => (admitted(next, packet), Answer::Sent(packet)),
+    match wait_left(&next).max(second_left(&next, &packet)) {
+        0 => (admitted(next, packet), Answer::Sent(packet)),
+        left => (next, Answer::Closed(left)),
     }
 }
 
@@ -98,7 +98,8 @@ pub fn call(state: State, call: &Call) -> (State, Answer) {
     }
 }
 
-/// "Refusal numbers": checks 9, 2 and 3; then the state with its clock moved.
+/// "Refusal numbers": checks 9, 2 and 3; then the state with its clock moved
+/// and, as every accepted call has it, the aged admissions dropped.
 fn clock_moved(state: &State, stamp: u32) -> Result<State, u32> {
     if !sound(state) {
         return Err(NO_STATE);
@@ -114,8 +115,16 @@ fn clock_moved(state: &State, stamp: u32) -> Result<State, u32> {
     Ok(State {
         stamp,
         time,
+        ledger: aged_dropped(&state.ledger, time),
         ..*state
     })
+}
+
+/// W-207: the ledger without the admissions that have reached 1,000,000 µs.
+fn aged_dropped(ledger: &Ledger, time: u64) -> Ledger {
+    let held = ledger.held().iter().copied();
+    let young: Vec<Admission> = held.filter(|held| rules::young(time, held.at)).collect();
+    Ledger::of(&young)
 }
 
 /// A sample: 9, 2, 3, 4 (no load), else the state learns the load.
@@ -228,23 +237,44 @@ fn first_waiting(state: &State) -> Option<Packet> {
     None
 }
 
-/// The µs left until the wait is over, if something was admitted and it isn't
-/// over yet. The wait is taken afresh.
-fn time_left(state: &State) -> Option<u64> {
-    if !state.any {
-        return None;
-    }
-    let closed = rules::closed_for(state.profile, state.level, state.duty, state.ontime)?;
-    let passed = state.time - state.at;
-    if passed < closed {
-        Some(closed - passed)
-    } else {
-        None
-    }
+/// The µs left until the wait is over; 0 if it is, or nothing was admitted. The
+/// wait is taken afresh.
+fn wait_left(state: &State) -> u64 {
+    let Some(last) = state.last() else {
+        return 0;
+    };
+    let closed = rules::closed_for(state.profile, state.level, state.duty, last.ontime);
+    let passed = state.time - last.at;
+    closed.map_or(0, |closed| closed.saturating_sub(passed))
+}
+
+/// W-207: the µs until the packet fits into the second; 0 if it does now.
+///
+/// On-times leave the second only as their admissions age, so it is now or at
+/// one of those moments. At the last of them the packet is alone, and fits.
+fn second_left(state: &State, packet: &Packet) -> u64 {
+    let moments = state
+        .ledger
+        .held()
+        .iter()
+        .map(|held| held.at + rules::SECOND);
+    let mut moments = std::iter::once(state.time).chain(moments);
+    let fits = moments.find(|&moment| {
+        let on_air = in_second(state, moment) + u64::from(packet.ontime);
+        on_air <= rules::SECOND_MOST
+    });
+    fits.map_or(0, |moment| moment - state.time)
+}
+
+/// W-207: all on-times admitted in the second up to and including a moment.
+fn in_second(state: &State, moment: u64) -> u64 {
+    let held = state.ledger.held().iter();
+    let young = held.filter(|held| rules::young(moment, held.at));
+    young.map(|held| u64::from(held.ontime)).sum()
 }
 
 /// The state after the packet left the front of its queue, was recorded as the
-/// last admission and counted as sent.
+/// last admission, in the ledger too, and counted as sent.
 fn admitted(state: State, packet: Packet) -> State {
     let mut next = state;
     let queue = &mut next.queues[packet.priority as usize];
@@ -252,6 +282,11 @@ fn admitted(state: State, packet: Packet) -> State {
     next.any = true;
     next.at = state.time;
     next.ontime = packet.ontime;
+    // There is room: forty with gaps of 25,000 µs and this one, no less after
+    // them, would take a second, and the first of them would be dropped.
+    let mut held = state.ledger.held().to_vec();
+    held.extend(next.last());
+    next.ledger = Ledger::of(&held);
     next.counts.sent += 1;
     next
 }

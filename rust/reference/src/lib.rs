@@ -1,7 +1,7 @@
 //! The second, independent program of the gate.
 //!
 //! It is document 01 written out plainly, with requests W-201, W-202 and W-204
-//! to W-206 of document 02, to be read beside those papers and run beside the
+//! to W-207 of document 02, to be read beside those papers and run beside the
 //! product. It shares no code and no table with the product.
 //!
 //! - [`rules`]: the rules on plain numbers, and each profile's constants
@@ -15,6 +15,7 @@
 //! - [`burst`]: many offers in one call
 //! - [`rng`]: a small number generator for tests
 //! - [`miscounts`]: counts that don't add up, for tests
+//! - [`ledgers`]: ledgers, good and broken, for tests
 //!
 //! Times are whole microseconds (µs), duty is in parts per 1,000,000,000 and
 //! load in parts per 1,000,000.
@@ -27,6 +28,7 @@ pub mod burst;
 pub mod calls;
 pub mod ccalls;
 pub mod gate;
+pub mod ledgers;
 pub mod log;
 pub mod miscounts;
 pub mod rng;

@@ -105,6 +105,12 @@ pub const TIME_END: u64 = 1_000_000_000_000_000;
 pub const ACCEPTED_MOST: u64 = 1_000_000_000_000_000;
 /// The longest lifetime, in µs. The shortest is 1.
 pub const LIFETIME_MOST: u32 = 60_000_000;
+/// W-207: the second that test houses slide, in µs.
+pub const SECOND: u64 = 1_000_000;
+/// W-207: the most on-time admitted in such a second, in µs.
+pub const SECOND_MOST: u64 = 30_000;
+/// W-207: the shortest time between two admissions, in µs.
+pub const GAP_LEAST: u64 = 25_000;
 /// W-205: the number of a gate made in the new way: a full queue drops its
 /// oldest. It is the default.
 pub const NEW_WAY: u32 = 0;
@@ -307,6 +313,12 @@ pub fn closed_for(profile: u32, level: u32, duty: u32, ontime: u32) -> Option<u6
 /// the lifetime. An arrival still to come has no age, so it is not expired.
 pub fn expired(time: u64, arrival: u64, lifetime: u32) -> bool {
     arrival <= time && time - arrival >= u64::from(lifetime)
+}
+
+/// W-207: whether an admission is in the second up to and including a time: one
+/// exactly 1,000,000 µs old is left out, and one still to come is not in it.
+pub fn young(time: u64, at: u64) -> bool {
+    at <= time && time - at < SECOND
 }
 
 /// W-201 and W-205: accepted equals sent plus expired plus displaced plus

@@ -1,7 +1,9 @@
-//! The state, and what makes one sound ("State and calls", W-201's counts and
-//! W-205's way).
+//! The state, and what makes one sound ("State and calls", W-201's counts,
+//! W-205's way and W-207's ledger).
 //!
 //! The fields are raw, so that any state a host could build can be judged.
+
+use std::fmt;
 
 use crate::rules;
 
@@ -9,6 +11,8 @@ use crate::rules;
 pub const SLOTS: usize = 5;
 /// The number of queues, one for each priority.
 pub const QUEUES: usize = 4;
+/// The number of admissions that the ledger has room for.
+pub const LEDGER_ROOM: usize = 40;
 
 /// A packet descriptor. An unused slot holds the all-zero one.
 #[derive(Clone, Copy, Debug, Default, PartialEq, Eq)]
@@ -64,6 +68,81 @@ impl Queue {
     }
 }
 
+/// An admission. Unused room in the ledger holds the all-zero one.
+#[derive(Clone, Copy, Debug, Default, PartialEq, Eq)]
+pub struct Admission {
+    /// The running time at which it was made.
+    pub at: u64,
+    /// The on-time of the packet.
+    pub ontime: u32,
+}
+
+/// W-207: the admissions of the last second, the oldest first.
+#[derive(Clone, Copy, PartialEq, Eq)]
+pub struct Ledger {
+    /// How many are held; in a sound state at most 40.
+    pub len: u64,
+    /// The room.
+    pub slots: [Admission; LEDGER_ROOM],
+}
+
+impl Default for Ledger {
+    fn default() -> Ledger {
+        Ledger {
+            len: 0,
+            slots: [Admission::default(); LEDGER_ROOM],
+        }
+    }
+}
+
+impl fmt::Debug for Ledger {
+    /// Only as much of the room as has something in it.
+    fn fmt(&self, f: &mut fmt::Formatter) -> fmt::Result {
+        let used = |slot: &Admission| *slot != Admission::default();
+        let end = self.slots.iter().rposition(used).map_or(0, |at| at + 1);
+        f.debug_struct("Ledger")
+            .field("len", &self.len)
+            .field("slots", &&self.slots[..end])
+            .finish()
+    }
+}
+
+impl Ledger {
+    /// The admissions held. A length above 40 is judged on the length itself,
+    /// and nothing is read with it.
+    pub fn held(&self) -> &[Admission] {
+        match usize::try_from(self.len) {
+            Ok(len) if len <= LEDGER_ROOM => &self.slots[..len],
+            _ => &[],
+        }
+    }
+
+    /// The room past the length. With a length above 40 there is none.
+    pub fn unused(&self) -> &[Admission] {
+        match usize::try_from(self.len) {
+            Ok(len) if len <= LEDGER_ROOM => &self.slots[len..],
+            _ => &[],
+        }
+    }
+
+    /// A ledger of these admissions, in this order, unused room zero; those
+    /// past the fortieth have no room and are left out.
+    pub fn of(admissions: &[Admission]) -> Ledger {
+        let mut ledger = Ledger::default();
+        for (slot, admission) in ledger.slots.iter_mut().zip(admissions) {
+            *slot = *admission;
+            ledger.len += 1;
+        }
+        ledger
+    }
+
+    /// All on-times held.
+    pub fn sum(&self) -> u64 {
+        let ontimes = self.held().iter().map(|admission| admission.ontime);
+        ontimes.map(u64::from).sum()
+    }
+}
+
 /// W-201 and W-205: what has come to the gate, and how it left.
 #[derive(Clone, Copy, Debug, Default, PartialEq, Eq)]
 pub struct Counts {
@@ -114,6 +193,8 @@ pub struct State {
     pub at: u64,
     /// The on-time of the last admission.
     pub ontime: u32,
+    /// The admissions of the last second.
+    pub ledger: Ledger,
     /// The four queues, by priority.
     pub queues: [Queue; QUEUES],
     /// What was accepted, sent, expired and displaced.
@@ -136,6 +217,28 @@ impl State {
     /// How many packets wait in all queues.
     pub fn waiting(&self) -> usize {
         self.queues.iter().map(|queue| queue.waiting().len()).sum()
+    }
+
+    /// The last admission, if anything was admitted.
+    pub fn last(&self) -> Option<Admission> {
+        let (at, ontime) = (self.at, self.ontime);
+        self.any.then_some(Admission { at, ontime })
+    }
+
+    /// The state with these admissions, the oldest first: the last is its last
+    /// admission, and those of the last second are its ledger. For those who
+    /// make states to test with.
+    pub fn with_admissions(mut self, admissions: &[Admission]) -> State {
+        let last = admissions.last();
+        self.any = last.is_some();
+        Admission {
+            at: self.at,
+            ontime: self.ontime,
+        } = last.copied().unwrap_or_default();
+        let young = |admission: &&Admission| rules::young(self.time, admission.at);
+        let held: Vec<Admission> = admissions.iter().filter(young).copied().collect();
+        self.ledger = Ledger::of(&held);
+        self
     }
 
     /// The state with so many sent, expired and displaced, and as many accepted
@@ -163,8 +266,9 @@ impl State {
 /// One rule of soundness: its name, and whether it holds of a state.
 type Rule = (&'static str, fn(&State) -> bool);
 
-/// The rules in the order of the paper's list, then W-201's two and W-205's.
-const RULES: [Rule; 23] = [
+/// The rules in the order of the paper's list, then W-201's two, W-205's, and
+/// those of W-207 in the order of its list.
+const RULES: [Rule; 30] = [
     ("live", |s| s.live),
     ("profile 1 to 3", |s| rules::profile_known(s.profile)),
     ("level at most 4", |s| s.level <= rules::LEVEL_MOST),
@@ -206,7 +310,47 @@ const RULES: [Rule; 23] = [
         s.counts.accepted <= rules::ACCEPTED_MOST
     }),
     ("old way 0 or 1", |s| rules::way_known(s.oldway)),
+    ("ledger length at most 40", |s| {
+        s.ledger.len <= LEDGER_ROOM as u64
+    }),
+    ("ledger in order, gaps at least 25,000", ledger_spaced),
+    ("ledger on-times allowed", |s| {
+        let good = |held: &Admission| rules::on_time_allowed(s.profile, held.ontime);
+        s.ledger.held().iter().all(good)
+    }),
+    ("ledger younger than 1,000,000", |s| {
+        let young = |held: &Admission| rules::young(s.time, held.at);
+        s.ledger.held().iter().all(young)
+    }),
+    ("ledger sum at most 30,000", |s| {
+        s.ledger.sum() <= rules::SECOND_MOST
+    }),
+    ("ledger newest the last admission, or empty", ledger_current),
+    ("ledger room past the length zero", |s| {
+        let zero = |room: &Admission| *room == Admission::default();
+        s.ledger.unused().iter().all(zero)
+    }),
 ];
+
+/// W-207: "in order of time, gaps at least 25,000 µs".
+fn ledger_spaced(state: &State) -> bool {
+    state.ledger.held().windows(2).all(|pair| {
+        let gap = pair[1].at.checked_sub(pair[0].at);
+        gap.is_some_and(|gap| gap >= rules::GAP_LEAST)
+    })
+}
+
+/// W-207: "its newest being the last admission whenever that is young enough,
+/// empty otherwise".
+fn ledger_current(state: &State) -> bool {
+    let last = state
+        .last()
+        .filter(|last| rules::young(state.time, last.at));
+    match last {
+        Some(last) => state.ledger.held().last() == Some(&last),
+        None => state.ledger.held().is_empty(),
+    }
+}
 
 fn lengths_good(state: &State) -> bool {
     state.queues.iter().all(|queue| queue.len <= SLOTS as u64)

@@ -25,8 +25,11 @@ left-of-requires c κs =
     let s = c .before .before .before .before .before in
     last-before (s .args .n) (s .pre)
 
+longer-requires : tie.Need-longer-requires
+longer-requires c κs = search needs
+
 plan-found-requires : tie.Need-plan-found-requires
-plan-found-requires c κs = c .before .before .before .before .before .before .pre .few-sent
+plan-found-requires c κs = c .before .before .before .before .before .before .before .pre .few-sent
 
 returns : tie.Need-returns
 unfolding pollPlan
@@ -34,9 +37,11 @@ returns c = c .keep-queues .ensures ∙ rw (c .before .enum-told .given .1)
 
 returns-2 : tie.Need-returns-2
 returns-2 c =
-    let l = c .before in
+    let m = c .before in
+    let l = m .before in
     let f = l .before .before .before .before in
-    c .plan-found .ensures ∙ rw (f .found .given .1, ← (l .before .closed-after .ensures), ← (l .left-of .ensures))
+    c .plan-found .ensures
+    ∙ rw (f .found .given .1, ← (l .before .closed-after .ensures), ← (l .left-of .ensures), ← (m .longer .ensures))
 
 pub plan-poll-spec : {M : Type 1} → statement M
 plan-poll-spec =
@@ -47,6 +52,7 @@ plan-poll-spec =
     enum-known-found
     closed-after-requires
     left-of-requires
+    longer-requires
     plan-found-requires
     returns
     returns-2)

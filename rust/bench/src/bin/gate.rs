@@ -9,12 +9,19 @@ mod places;
 mod plain;
 
 use places::{median, rounds, Call, Run, PLACES};
-use plain::{by_value, Answer, Packet, Queue, State};
+use plain::{by_value, Answer, Ledger, Packet, Queue, State};
 use presscurlew::sys;
 
 /// Rounds of each side: as many at each place of the stack.
 const ROUNDS: usize = 13 * PLACES;
 const CALLS: usize = 3000;
+
+/// The state that a row starts from, as the archive has it and as plain Rust does.
+#[derive(Clone, Copy)]
+struct Start {
+    archive: sys::State,
+    plain: State,
+}
 
 #[derive(Clone, Copy)]
 #[repr(C)]
@@ -27,10 +34,10 @@ extern "C" {
     fn presscurlew_run_row(state: State, row: *const u32, numbers: usize) -> Tally;
 }
 
-fn rattle(state: State, row: &[Call]) -> Tally {
+fn rattle(start: Start, row: &[Call]) -> Tally {
     let numbers = row.as_flattened();
     // SAFETY: the archive reads `numbers.len()` numbers behind the pointer and keeps neither.
-    unsafe { presscurlew_run_row(state, numbers.as_ptr(), numbers.len()) }
+    unsafe { presscurlew_run_row(start.plain, numbers.as_ptr(), numbers.len()) }
 }
 
 fn packet(p: sys::Packet) -> Packet {
@@ -53,6 +60,11 @@ fn queue(q: sys::Queue) -> Queue {
 fn state(s: sys::State) -> State {
     State {
         queues: s.queues.map(queue),
+        ledger: Ledger {
+            len: s.ledger.len as usize,
+            ats: s.ledger.ats,
+            ontimes: s.ledger.ontimes,
+        },
         time: s.clock.time,
         stamp: s.clock.stamp,
         gap: 0,
@@ -74,9 +86,9 @@ fn state(s: sys::State) -> State {
     }
 }
 
-/// One C call a turn, the state by value there and back. It starts from a fresh state, as all do.
-fn by_c_calls(start: State, row: &[Call]) -> Tally {
-    let mut now = sys::presscurlew_make(start.profile, start.oldway, start.stamp).state;
+/// One C call a turn, the state by value there and back.
+fn by_c_calls(start: Start, row: &[Call]) -> Tally {
+    let mut now = start.archive;
     let mut sent = 0;
     for &[kind, a, b, c, d, stamp] in row {
         let turn = match kind {
@@ -99,8 +111,8 @@ fn count(sent: &mut u64, answer: Answer) {
     }
 }
 
-fn valued(mut state: State, row: &[Call]) -> Tally {
-    let mut sent = 0;
+fn valued(start: Start, row: &[Call]) -> Tally {
+    let (mut state, mut sent) = (start.plain, 0);
     for &[kind, a, b, c, d, stamp] in row {
         let (next, answer) = match kind {
             1 => by_value::sample(state, a, stamp),
@@ -113,8 +125,8 @@ fn valued(mut state: State, row: &[Call]) -> Tally {
     Tally { state, sent }
 }
 
-fn in_place(mut state: State, row: &[Call]) -> Tally {
-    let mut sent = 0;
+fn in_place(start: Start, row: &[Call]) -> Tally {
+    let (mut state, mut sent) = (start.plain, 0);
     for &[kind, a, b, c, d, stamp] in row {
         let answer = match kind {
             1 => state.sample(a, stamp),
@@ -129,43 +141,64 @@ fn in_place(mut state: State, row: &[Call]) -> Tally {
 /// A mix of calls, on a gate made so.
 struct Mix {
     name: &'static str,
+    profiles: &'static [u32],
     /// A call by its number in the row; the kinds are the call log's.
     call: fn(u32) -> [u32; 5],
     /// The µs from one call to the next.
     step: u32,
     when_full: u32,
+    /// Samples of an idle channel before the row.
+    quiet: u32,
 }
 
-const MIXES: [Mix; 5] = [
+const MIXES: [Mix; 6] = [
     Mix {
         name: "few waiting",
+        profiles: &[1, 3],
         call: few,
         step: 70_000,
         when_full: sys::DROP_OLDEST,
+        quiet: 0,
     },
     Mix {
         name: "full, dropping",
+        profiles: &[1, 3],
         call: full,
         step: 30_000,
         when_full: sys::DROP_OLDEST,
+        quiet: 0,
     },
     Mix {
         name: "full, refusing",
+        profiles: &[1, 3],
         call: full,
         step: 30_000,
         when_full: sys::REFUSE_NEW,
+        quiet: 0,
     },
     Mix {
         name: "offer, SENT",
+        profiles: &[1, 3],
         call: sending,
         step: 600_000,
         when_full: sys::DROP_OLDEST,
+        quiet: 0,
     },
     Mix {
         name: "with samples",
+        profiles: &[1, 3],
         call: sampled,
         step: 70_000,
         when_full: sys::DROP_OLDEST,
+        quiet: 0,
+    },
+    Mix {
+        name: "40 held",
+        profiles: &[3],
+        call: at_the_ceiling,
+        step: 12_500,
+        when_full: sys::DROP_OLDEST,
+        quiet: 1_000,
     },
 ];
 
@@ -211,6 +244,25 @@ fn sampled(i: u32) -> [u32; 5] {
     }
 }
 
+/// An offer of 750 µs, then a poll that sends it, each 25 ms: with the highest duty the ledger is full after a second,
+/// and from then on each poll drops its oldest and notes another.
+fn at_the_ceiling(i: u32) -> [u32; 5] {
+    if i % 2 == 0 {
+        [2, i, i / 2 % 4, 750, 1_000_000]
+    } else {
+        POLL
+    }
+}
+
+fn start(mix: &Mix, profile: u32) -> Start {
+    let mut archive = sys::presscurlew_make(profile, mix.when_full, 0).state;
+    for _ in 0..mix.quiet {
+        archive = sys::presscurlew_sample_count(archive, 0, 0).state;
+    }
+    let plain = state(archive);
+    Start { archive, plain }
+}
+
 fn row(mix: &Mix) -> Vec<Call> {
     (0..CALLS as u32)
         .map(|i| {
@@ -220,7 +272,7 @@ fn row(mix: &Mix) -> Vec<Call> {
         .collect()
 }
 
-const SIDES: [Run<State, Tally>; 4] = [rattle, by_c_calls, valued, in_place];
+const SIDES: [Run<Start, Tally>; 4] = [rattle, by_c_calls, valued, in_place];
 
 /// The least and the greatest median of a place. Round by round the places take turns.
 fn spread(times: &[f64]) -> [f64; 2] {
@@ -237,7 +289,7 @@ fn spread(times: &[f64]) -> [f64; 2] {
 /// Prints a line, and hands back the spread of each side over the places.
 fn measure(mix: &Mix, profile: u32) -> [[f64; 2]; 4] {
     let (row, name) = (row(mix), mix.name);
-    let start = State::new(profile, mix.when_full, 0);
+    let start = start(mix, profile);
     let ends = SIDES.map(|run| run(start, &row)).map(|mut end| {
         end.state.gap = 0; // padding in the archive's state
         end
@@ -262,7 +314,8 @@ fn main() {
     println!("mix            profile    Rattle   C calls       (a)       (b)   / (a)   / (b)");
     let mut by_place = Vec::new();
     for profile in [1, 3] {
-        by_place.extend(MIXES.iter().map(|mix| measure(mix, profile)));
+        let mixes = MIXES.iter().filter(|mix| mix.profiles.contains(&profile));
+        by_place.extend(mixes.map(|mix| measure(mix, profile)));
     }
     print!("first line, by the place in the stack:");
     for (side, [least, greatest]) in ["Rattle", "C calls", "(a)", "(b)"].iter().zip(by_place[0]) {

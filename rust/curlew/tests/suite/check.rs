@@ -29,8 +29,8 @@ fn the_sample_is_kept() {
         "accepted: 0 samples, 2 offers, 4 polls; refused: 1 CLOCK-BACK",
         "Counts     KEPT. 2 accepted = 1 sent + 0 expired + 0 displaced + 1 waiting at the end. They add up",
         "Delivery   KEPT. No packet of priority 0 left.",
-        "KEPT. Most air time in any second: 400 µs of 34 ms, up to 0.000200 s.",
-        "Closest call: one packet at 0.000200 s, with 400 µs of the 4,000 µs allowed.",
+        "Ceiling    KEPT. Closest call: one packet at 0.000200 s, with 400 µs of the 4,000 µs allowed.",
+        "Second     KEPT. Closest call: one packet at 0.000200 s, with 400 µs of the 30 ms allowed in any second.",
         "KEPT. Latest CLOSED: 50 ms after an admission; from 1.0005 s on a poll sends.",
         "none went: 100 µs, up to the SENT at 0.000200 s.",
         "8 records in 1 run, answers fit.",
@@ -55,7 +55,7 @@ fn one_wrong_answer_is_found() {
         (5, "CLOSED 49601", "the answer is CLOSED 49601, the right one is CLOSED 49600"),
         // As if the wait had started with the admission.
         (5, "CLOSED 49200", "the answer is CLOSED 49200, the right one is CLOSED 49600"),
-        (5, "SENT 7", "record 5 (poll at 704): the answer is SENT 7, the right one is CLOSED 49600"),
+        (5, "SENT 7", "record 5 (poll at 704): gap: 800 µs after the packet before, where 25 ms are due"),
         (5, "IDLE", "IDLE, but a packet waits"),
         (6, "SENT 7", "the answer is SENT 7, the right one is CLOSED 400"),
         (7, "IDLE", "record 7 (poll at 49903)"),
@@ -176,6 +176,47 @@ fn the_ceiling_is_watched() {
         poll at +0\npoll at +1000\n";
     let out = "READY\nTAKEN\nTAKEN\nSENT 1\nSENT 2\nEND\n";
     let words = "record 5 (poll at 1000): ceiling: 8,000 µs of air time in 1,000 µs, where 4,030 µs is allowed";
+    check(&log_of(text), out).failed(1, words);
+}
+
+/// Eight packets of 4,000 µs at 133,334 µs keep the ceiling, and are too much for a second.
+#[test]
+fn the_second_is_watched() {
+    let (log, out) = (example("any-second", "log"), example("any-second", "out"));
+    let text = curlew(&["check", &log, &out]).good().text();
+    let words = "Second     KEPT. Closest call: the 975 ms from 42.133334 s on, with 30 ms of the 30 ms allowed";
+    assert!(text.contains(words), "{text}");
+    let log = example_bytes("any-second", "log");
+    let out = String::from_utf8(example_bytes("any-second", "out")).unwrap();
+    check(&log, &out.replace("CLOSED 66662", "SENT 8")).failed(
+        1,
+        "record 418 (poll at 40933338): second: 32 ms admitted in the second up to 40.933338 s, \
+         where 30 ms is allowed",
+    );
+    // A number of µs that is not the greater of the two.
+    for wrong in ["CLOSED 66661", "CLOSED 66663", "CLOSED 1"] {
+        let words = format!("the answer is {wrong}, the right one is CLOSED 66662");
+        check(&log, &out.replace("CLOSED 66662", wrong)).failed(1, &words);
+    }
+    // The shorter one behind it would fit, and is not first in turn.
+    check(&log, &out.replace("CLOSED 66662", "SENT 9"))
+        .failed(1, "SENT 9, but packet 8 of priority 0 is first in turn");
+    check(&log, &out.replace("CLOSED 25000", "SENT 142")).failed(
+        1,
+        "second: 30.001 ms admitted in the second up to 43.158334 s",
+    );
+}
+
+/// Two packets nearer than any wait, so short that neither ceiling is passed.
+#[test]
+fn the_gap_is_watched() {
+    let text = "make 2 at 0\n\
+        offer 1 priority 0 ontime 9 lifetime 1s at +0\n\
+        offer 2 priority 0 ontime 9 lifetime 1s at +0\n\
+        poll at +0\npoll at +24999\n";
+    let out = "READY\nTAKEN\nTAKEN\nSENT 1\nSENT 2\nEND\n";
+    let words =
+        "record 5 (poll at 24999): gap: 24.999 ms after the packet before, where 25 ms are due";
     check(&log_of(text), out).failed(1, words);
 }
 

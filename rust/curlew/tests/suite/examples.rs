@@ -84,6 +84,15 @@ fn the_two_ways_have_the_same_calls() {
     assert_eq!((drops[4], other), (0, keeps));
 }
 
+/// What the log of the sliding second is there to show.
+#[test]
+fn the_eighth_packet_waits_until_the_first_is_a_second_old() {
+    let out = String::from_utf8(example_bytes("any-second", "out")).unwrap();
+    let lines = "\nSENT 7\nTAKEN\nTAKEN\nCLOSED 66662\nCLOSED 1\nSENT 8\n";
+    assert!(out.contains(lines), "{out}");
+    assert_eq!(out.matches("SENT 1").count(), 43, "1, and 101 to 142");
+}
+
 /// What the jam is there to show.
 #[test]
 fn in_the_jam_a_warning_goes_each_second() {

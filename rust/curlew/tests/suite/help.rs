@@ -113,12 +113,13 @@ impl Drop for Folder {
 }
 
 /// The names of the example logs.
-pub const EXAMPLES: [&str; 7] = [
+pub const EXAMPLES: [&str; 8] = [
     "sample",
     "quiet-morning",
     "jam",
     "drop-oldest",
     "keep-oldest",
+    "any-second",
     "clock-wrap",
     "damaged-tail",
 ];

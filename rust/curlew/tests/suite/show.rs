@@ -10,14 +10,14 @@ fn the_sample() {
     let shown = shown.good().text();
     let lines: Vec<String> = shown.lines().skip(3).map(squeezed).collect();
     let wanted = [
-        "1 0.000000 make, profile 2, stamp 4,294,967,000 READY 0 0 0 0 0 0 0 0 level 0, 50 ms",
-        "2 0.000100 offer 7: priority 2, 400 µs, lives 1 s TAKEN 1 0 0 0 0 0 1 0 level 0, 50 ms",
-        "3 0.000100 offer 8: priority 1, 400 µs, lives 60 ms TAKEN 2 0 0 0 0 1 1 0 level 0, 50 ms",
-        "4 0.000200 poll SENT 8 2 1 0 0 0 0 1 0 level 0, 50 ms",
-        "5 0.001000 poll CLOSED 49600 2 1 0 0 0 0 1 0 level 0, 50 ms",
-        "6 0.050200 poll CLOSED 400 2 1 0 0 0 0 1 0 level 0, 50 ms",
-        "7 0.050200 poll REFUSED 2 CLOCK-BACK 2 1 0 0 0 0 1 0 level 0, 50 ms",
-        "8 0.050200 poll CLOSED 400 2 1 0 0 0 0 1 0 level 0, 50 ms",
+        "1 0.000000 make, profile 2, stamp 4,294,967,000 READY 0 0 0 0 0 0 0 0 0 µs level 0, 50 ms",
+        "2 0.000100 offer 7: priority 2, 400 µs, lives 1 s TAKEN 1 0 0 0 0 0 1 0 0 µs level 0, 50 ms",
+        "3 0.000100 offer 8: priority 1, 400 µs, lives 60 ms TAKEN 2 0 0 0 0 1 1 0 0 µs level 0, 50 ms",
+        "4 0.000200 poll SENT 8 2 1 0 0 0 0 1 0 400 µs level 0, 50 ms",
+        "5 0.001000 poll CLOSED 49600 2 1 0 0 0 0 1 0 400 µs level 0, 50 ms",
+        "6 0.050200 poll CLOSED 400 2 1 0 0 0 0 1 0 400 µs level 0, 50 ms",
+        "7 0.050200 poll REFUSED 2 CLOCK-BACK 2 1 0 0 0 0 1 0 400 µs level 0, 50 ms",
+        "8 0.050200 poll CLOSED 400 2 1 0 0 0 0 1 0 400 µs level 0, 50 ms",
         "END",
     ];
     assert_eq!(lines, wanted);
@@ -54,8 +54,8 @@ fn an_offer_says_what_it_displaced() {
         .map(squeezed)
         .collect();
     let wanted = [
-        "8 0.030999 offer 6: priority 0, 900 µs, lives 60 s TAKEN, displaced 1 7 0 0 1 5 0 0 1 level 0, 100 ms",
-        "10 0.051000 offer 8: priority 0, 900 µs, lives 60 s TAKEN, displaced 2 9 0 1 2 5 0 0 1 level 0, 100 ms",
+        "8 0.030999 offer 6: priority 0, 900 µs, lives 60 s TAKEN, displaced 1 7 0 0 1 5 0 0 1 0 µs level 0, 100 ms",
+        "10 0.051000 offer 8: priority 0, 900 µs, lives 60 s TAKEN, displaced 2 9 0 1 2 5 0 0 1 0 µs level 0, 100 ms",
     ];
     assert_eq!(told, wanted);
     let shown = curlew(&["show", &example("keep-oldest", "log")]);
@@ -63,6 +63,26 @@ fn an_offer_says_what_it_displaced() {
     assert!(!shown.contains(", displaced "), "{shown}");
     assert!(shown.contains("make, profile 1 keep-oldest, stamp 0"));
     assert!(shown.contains("REFUSED 8 QUEUE-FULL"));
+}
+
+/// A poll says when it is the second that keeps the gate closed, and each record the air time of the last second.
+#[test]
+fn a_full_second_is_told() {
+    let shown = curlew(&["show", "--from", "415", &example("any-second", "log")]);
+    let shown = shown.good().text();
+    let lines: Vec<String> = shown.lines().skip(3).take(7).map(squeezed).collect();
+    let wanted = [
+        "415 40.800004 poll SENT 7 7 7 0 0 0 0 0 0 28 ms duty 3.000 %, 133.334 ms",
+        "416 40.933338 offer 8: priority 0, 4000 µs, lives 10 s TAKEN 8 7 0 0 1 0 0 0 28 ms duty 3.000 %, 133.334 ms",
+        "417 40.933338 offer 9: priority 0, 100 µs, lives 10 s TAKEN 9 7 0 0 2 0 0 0 28 ms duty 3.000 %, 133.334 ms",
+        "418 40.933338 poll CLOSED 66662, second full 9 7 0 0 2 0 0 0 28 ms duty 3.000 %, 133.334 ms",
+        "419 40.999999 poll CLOSED 1, second full 9 7 0 0 2 0 0 0 28 ms duty 3.000 %, 133.334 ms",
+        "420 41.000000 poll SENT 8 9 8 0 0 1 0 0 0 28 ms duty 3.000 %, 133.334 ms",
+        "421 41.133334 poll SENT 9 9 9 0 0 0 0 0 0 24.1 ms duty 3.000 %, 25 ms",
+    ];
+    assert_eq!(lines, wanted);
+    let shown = curlew(&["show", &example("jam", "log")]).good().text();
+    assert!(!shown.contains("second full"), "the wait alone closes it");
 }
 
 /// A refusal, a sample or a poll after an offer that displaced does not say it again.
@@ -148,7 +168,7 @@ fn wrong_answers_are_marked() {
     assert!(marked[0].contains("IDLE"), "{text}");
     // From there on the book has no use.
     for line in text.lines().filter(|line| line.contains("poll")).skip(1) {
-        let unknown = line.contains("?      ?       ?         ?   ? ? ? ?");
+        let unknown = line.contains("?      ?       ?         ?   ? ? ? ?           ?");
         assert!(unknown || line.contains("record 5 ("), "{text}");
     }
 }

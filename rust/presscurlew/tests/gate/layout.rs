@@ -4,7 +4,9 @@
 use std::fmt::Write;
 use std::mem::{offset_of, size_of};
 
-use presscurlew::sys::{BurstTurn, Clock, Counts, Last, Packet, Queue, Reply, State, Tuning, Turn};
+use presscurlew::sys::{
+    BurstTurn, Clock, Counts, Last, Ledger, Packet, Queue, Reply, State, Tuning, Turn,
+};
 
 const LAYOUT: &str = include_str!("../../../../examples/c/layout.out");
 
@@ -12,7 +14,7 @@ const LAYOUT: &str = include_str!("../../../../examples/c/layout.out");
 macro_rules! layout {
     ($text:ident, $name:literal, $type:ty, $($field:ident),+) => {
         writeln!($text, "{} {} bytes", $name, size_of::<$type>()).unwrap();
-        $(writeln!($text, "  {:<9} at {:>3}", stringify!($field), offset_of!($type, $field)).unwrap();)+
+        $(writeln!($text, "  {:<9} at {:>4}", stringify!($field), offset_of!($type, $field)).unwrap();)+
     };
 }
 
@@ -21,11 +23,14 @@ fn structs_lie_as_c_sees_them() {
     let mut text = String::new();
     layout!(text, "packet", Packet, id, priority, ontime, lifetime, arrival);
     layout!(text, "queue", Queue, len, slots);
+    layout!(text, "ledger", Ledger, len, ats, ontimes);
     layout!(text, "clock", Clock, time, stamp);
     layout!(text, "last", Last, at, ontime, admitted);
     layout!(text, "counts", Counts, accepted, sent, expired, displaced);
     layout!(text, "tuning", Tuning, level, duty, smoothed, kept, pairing);
-    layout!(text, "state", State, queues, clock, last, counts, tuning, profile, oldway, live);
+    layout!(
+        text, "state", State, queues, ledger, clock, last, counts, tuning, profile, oldway, live
+    );
     layout!(text, "reply", Reply, packet, number, kind);
     layout!(text, "turn", Turn, state, reply);
     layout!(text, "burst_turn", BurstTurn, state, number);

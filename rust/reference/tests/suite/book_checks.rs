@@ -1,11 +1,11 @@
 //! The book checker rejects wrong gates, and its ceiling is every window's.
 
-use crate::help::{counts, displaced, since, Answer, Call};
+use crate::help::{admission, counts, displaced, since, Answer, Call};
 use crate::runs::Caller;
 use reference::book::Book;
 use reference::gate;
 use reference::rng::Rng;
-use reference::state::{Counts, Packet, State};
+use reference::state::{Admission, Counts, Ledger, Packet, State};
 
 fn offer(id: u32, priority: u32, ontime: u32, lifetime: u32, stamp: u32) -> Call {
     Call::Offer {
@@ -124,20 +124,220 @@ fn sent_too_early_breaks_the_ceiling() {
     accepts(&book, Call::Poll { stamp: 133_334 }, second);
 }
 
-#[test]
-fn many_admissions_a_little_too_early_break_the_ceiling() {
+/// Admissions of one on-time, so far apart, from stamp 0 on: how many the book
+/// takes, and what it says of the next.
+fn admissions(ontime: u32, apart: u32) -> (u32, String) {
     let mut book = Book::new(3, 0);
-    let mut stamp = 0;
-    for turn in 0.. {
-        book.feed(&offer(1, 3, 1_000, 60_000, stamp), &Answer::Taken)
+    for turn in 0..100_000 {
+        let stamp = turn * apart;
+        book.feed(&offer(1, 3, ontime, 60_000, stamp), &Answer::Taken)
             .unwrap();
-        let sent = Answer::Sent(packet(1, 3, 1_000, 60_000, u64::from(stamp)));
-        if book.feed(&Call::Poll { stamp }, &sent).is_err() {
-            // Each passes 3 % by 10 parts; the first alone has 300,000 left.
-            assert_eq!(turn, 30_001);
+        let sent = Answer::Sent(packet(1, 3, ontime, 60_000, u64::from(stamp)));
+        if let Err(said) = book.feed(&Call::Poll { stamp }, &sent) {
+            return (turn, said);
+        }
+        if stamp > 4_000_000_000 - apart {
             break;
         }
-        stamp += 33_330;
+    }
+    panic!("{ontime} µs at {apart} µs were all taken");
+}
+
+/// W-207: eight of 4,000 µs at 133,334 µs are 32 ms in a second; so is each
+/// rate above 3 % too much at last.
+#[test]
+fn too_much_in_a_second_is_rejected() {
+    for (ontime, apart, taken) in [
+        (4_000, 133_334, 7),
+        (1_000, 33_330, 30),
+        (750, 25_000 - 1, 1),
+        (751, 25_000, 39),
+        (3_000, 99_999, 10),
+    ] {
+        let (turn, said) = admissions(ontime, apart);
+        assert_eq!(turn, taken, "{said}");
+        let reason = if apart < 25_000 { "gap" } else { "second" };
+        assert!(said.starts_with(reason), "{said}");
+    }
+}
+
+/// A second old is out, a µs less is in.
+#[test]
+fn the_second_is_half_open() {
+    let mut fed = Vec::new();
+    for turn in 0..7 {
+        let stamp = turn * 133_334;
+        fed.push((offer(turn, 0, 4_000, 60_000, stamp), Answer::Taken));
+        let sent = packet(turn, 0, 4_000, 60_000, u64::from(stamp));
+        fed.push((Call::Poll { stamp }, Answer::Sent(sent)));
+    }
+    fed.push((offer(7, 0, 4_000, 60_000_000, 933_338), Answer::Taken));
+    let book = book(&fed);
+    let eighth = Answer::Sent(packet(7, 0, 4_000, 60_000_000, 933_338));
+    for stamp in [933_338, 999_998, 999_999] {
+        rejects(&book, Call::Poll { stamp }, eighth, "second: 32000 µs");
+        accepts(&book, Call::Poll { stamp }, Answer::Closed(1));
+    }
+    accepts(&book, Call::Poll { stamp: 1_000_000 }, eighth);
+    assert_eq!(book.closest().fullest_stretch, 28_000);
+    assert_eq!((book.stretch().len(), book.on_air()), (7, 28_000));
+}
+
+/// 30,000 is good and 30,001 is not.
+#[test]
+fn a_full_second_is_good() {
+    let mut fed = Vec::new();
+    for turn in 0..7 {
+        let stamp = turn * 140_000;
+        fed.push((offer(turn, 0, 4_000, 60_000, stamp), Answer::Taken));
+        let sent = packet(turn, 0, 4_000, 60_000, u64::from(stamp));
+        fed.push((Call::Poll { stamp }, Answer::Sent(sent)));
+    }
+    for (ontime, fits) in [(1_999, true), (2_000, true), (2_001, false)] {
+        let mut fed = fed.clone();
+        fed.push((offer(7, 0, ontime, 60_000, 970_000), Answer::Taken));
+        let last = Answer::Sent(packet(7, 0, ontime, 60_000, 970_000));
+        let poll = Call::Poll { stamp: 999_999 };
+        let fed = book(&fed).feed(&poll, &last);
+        assert_eq!(fed.is_ok(), fits, "{fed:?}");
+    }
+}
+
+#[test]
+fn admissions_too_near_to_each_other_are_rejected() {
+    let fed = [
+        (offer(1, 0, 1, 60_000, 0), Answer::Taken),
+        (offer(2, 0, 1, 60_000, 0), Answer::Taken),
+        (
+            Call::Poll { stamp: 9 },
+            Answer::Sent(packet(1, 0, 1, 60_000, 0)),
+        ),
+    ];
+    let second = Answer::Sent(packet(2, 0, 1, 60_000, 0));
+    for stamp in [9, 10, 25_008] {
+        rejects(&book(&fed), Call::Poll { stamp }, second, "gap");
+    }
+    accepts(&book(&fed), Call::Poll { stamp: 25_009 }, second);
+}
+
+/// The most in any half-open stretch, stretch by stretch.
+fn most_by_every_stretch(admissions: &[(u64, u32)]) -> u64 {
+    let from = admissions.iter().map(|&(start, _)| {
+        let inside = admissions
+            .iter()
+            .filter(|&&(at, _)| start <= at && at < start + 1_000_000);
+        inside.map(|&(_, ontime)| u64::from(ontime)).sum()
+    });
+    from.max().unwrap_or(0)
+}
+
+#[test]
+fn the_second_is_that_of_every_stretch() {
+    let mut rng = Rng::new(33);
+    let mut passes = 0;
+    for _ in 0..300 {
+        let mut book = Book::new(3, 0);
+        let mut admissions: Vec<(u64, u32)> = Vec::new();
+        let mut stamp = 0u32;
+        for _ in 0..80 {
+            // At 3 % or a little more, so that the ceiling holds for a while.
+            let last = admissions.last().map_or(750, |&(_, ontime)| ontime);
+            stamp += (last * 100 / 3 - rng.below(300) as u32).max(25_000);
+            let ontime = rng.pick(&[600, 750, 750, 1_000, 2_000]);
+            book.feed(&offer(1, 0, ontime, 1, stamp), &Answer::Taken)
+                .unwrap();
+            let sent = packet(1, 0, ontime, 1, u64::from(stamp));
+            let fed = book.feed(&Call::Poll { stamp }, &Answer::Sent(sent));
+            if matches!(&fed, Err(said) if !said.starts_with("second")) {
+                break;
+            }
+            admissions.push((u64::from(stamp), ontime));
+            let most = most_by_every_stretch(&admissions);
+            assert_eq!(book.closest().fullest_stretch, most);
+            assert_eq!(fed.is_err(), most > 30_000);
+            passes += u32::from(fed.is_err());
+            if fed.is_err() {
+                break;
+            }
+        }
+    }
+    assert!(passes > 50, "{passes}");
+}
+
+/// The book's last second, and ledgers that are not it.
+#[test]
+fn a_states_ledger_is_held_to_the_books() {
+    let sent = |id, at| packet(id, 0, 9, 60_000_000, at);
+    let mut book = book(&[
+        (offer(1, 0, 9, 60_000_000, 0), Answer::Taken),
+        (offer(2, 0, 9, 60_000_000, 0), Answer::Taken),
+        (Call::Poll { stamp: 5 }, Answer::Sent(sent(1, 0))),
+        (Call::Poll { stamp: 30_005 }, Answer::Sent(sent(2, 0))),
+    ]);
+    let [one, two] = [5, 30_005].map(|at| admission(at, 9));
+    let good = |book: &Book, held: &[Admission]| book.compare_ledger(&Ledger::of(held));
+    assert_eq!(good(&book, &[one, two]), Ok(()));
+    for (wrong, reason) in [
+        (vec![], "has 0 admissions, the book 2"),
+        (vec![two], "has 1 admissions, the book 2"),
+        (vec![one, two, two], "has 3 admissions, the book 2"),
+        (vec![one, one], "9 µs at 5, the book 9 µs at 30005"),
+        (vec![two, one], "9 µs at 30005, the book 9 µs at 5"),
+        (vec![one, admission(30_005, 8)], "has 8 µs at 30005"),
+    ] {
+        let said = good(&book, &wrong).unwrap_err();
+        assert!(said.contains(reason), "{said}");
+    }
+    // A sample too moves the second on, and a refused call does not.
+    let sample = |stamp| Call::SampleCount { busy: 0, stamp };
+    for (stamp, answer, held) in [
+        (1_000_004, Answer::Taken, vec![one, two]),
+        (1_000_005, Answer::Refused(4), vec![one, two]),
+        (1_000_005, Answer::Taken, vec![two]),
+        (1_030_004, Answer::Taken, vec![two]),
+        (1_030_005, Answer::Taken, vec![]),
+    ] {
+        book.feed(&sample(stamp), &answer).unwrap();
+        assert_eq!(good(&book, &held), Ok(()), "{stamp}");
+    }
+}
+
+/// What a gate remembers of its admissions.
+type Memory = fn(&[Admission]) -> Vec<Admission>;
+
+/// Gates of profile 3 at the greatest duty that forget of their admissions pass
+/// what a second allows.
+#[test]
+fn gates_with_a_bad_ledger_are_rejected() {
+    let slips: [(&str, Memory); 4] = [
+        ("none is kept", |_| vec![]),
+        ("the last alone is kept", |held| {
+            held.last().copied().into_iter().collect()
+        }),
+        ("the first is dropped", |held| {
+            held.iter().skip(1).copied().collect()
+        }),
+        ("half the on-times are noted", |held| {
+            let half = |held: &Admission| admission(held.at, held.ontime / 2);
+            held.iter().map(half).collect()
+        }),
+    ];
+    for (slip, memory) in slips {
+        let (mut state, _) = gate::make(3, 0, 0);
+        state.duty = 30_000_000;
+        let mut book = Book::new(3, 0);
+        let said = (0..100u32).find_map(|turn| {
+            let stamp = turn * 133_334;
+            let (offer, poll) = (offer(turn, 0, 4_000, 60_000, stamp), Call::Poll { stamp });
+            let (next, answer) = gate::call(state, &offer);
+            book.feed(&offer, &answer).unwrap();
+            let kept = memory(next.ledger.held());
+            let (next, answer) = gate::call(next.with_admissions(&kept), &poll);
+            state = next;
+            book.feed(&poll, &answer).err()
+        });
+        let said = said.unwrap_or_default();
+        assert!(said.starts_with("second"), "{slip}: {said}");
     }
 }
 
@@ -356,13 +556,15 @@ fn slack_by_every_window(admissions: &[(u64, u32)]) -> Option<i128> {
 #[test]
 fn the_ceiling_is_that_of_every_window() {
     let mut rng = Rng::new(31);
-    for _ in 0..200 {
+    let mut passes = 0;
+    for round in 0..300 {
+        let rng_most = [1_000, 2_000, 4_000][round % 3];
         let mut book = Book::new(3, 0);
         let mut admissions: Vec<(u64, u32)> = Vec::new();
         let mut stamp = 0u32;
         for _ in 0..60 {
-            stamp += rng.pick(&[0, 10_000, 30_000, 33_334, 100_000, 400_000]);
-            let ontime = 1 + rng.below(2_000) as u32;
+            stamp += rng.pick(&[25_000, 30_000, 33_334, 60_000, 100_000, 400_000]);
+            let ontime = 1 + rng.below(rng_most) as u32;
             book.feed(&offer(1, 0, ontime, 1, stamp), &Answer::Taken)
                 .unwrap();
             let sent = packet(1, 0, ontime, 1, u64::from(stamp));
@@ -370,12 +572,15 @@ fn the_ceiling_is_that_of_every_window() {
             admissions.push((u64::from(stamp), ontime));
             let slack = slack_by_every_window(&admissions);
             assert_eq!(book.closest().smallest_slack, slack);
-            assert_eq!(fed.is_err(), slack < Some(0));
+            let passed = matches!(&fed, Err(said) if said.contains("ceiling"));
+            assert_eq!(passed, slack < Some(0));
+            passes += u32::from(passed);
             if fed.is_err() {
                 break;
             }
         }
     }
+    assert!(passes > 50, "{passes}");
 }
 
 /// The answers that a poll may not give in place of the right one.
@@ -525,6 +730,7 @@ fn gates_without_a_wait_or_that_never_open_are_rejected() {
                     any: false,
                     at: 0,
                     ontime: 0,
+                    ledger: Ledger::default(),
                     ..state
                 };
                 let (next, mut answer) = gate::call(state, &call);

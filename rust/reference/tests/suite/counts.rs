@@ -149,6 +149,7 @@ fn number_11_comes_after_all_others() {
         let back = stamp.wrapping_add(BACK);
         assert_refused(state, gate::offer(state, 1, 4, 0, 0, back), 2);
         state.time = 1_000_000_000_000_000;
+        state = state.with_admissions(&[]);
         assert_refused(state, gate::offer(state, 1, 4, 0, 0, stamp + 1), 3);
         assert_refused(state, gate::offer(state, 1, 1, 1, 1, stamp), 11);
         state.counts.sent += 1;

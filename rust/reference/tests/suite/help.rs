@@ -2,7 +2,7 @@
 
 use reference::gate;
 use reference::rules;
-use reference::state::{Counts, Packet, Queue, State};
+use reference::state::{Admission, Counts, Packet, Queue, State};
 
 pub use reference::gate::{Answer, Call};
 
@@ -56,6 +56,11 @@ pub fn old(state: State) -> State {
     State { oldway: 1, ..state }
 }
 
+/// An admission.
+pub fn admission(at: u64, ontime: u32) -> Admission {
+    Admission { at, ontime }
+}
+
 /// A packet of the longest on-time that the profile allows.
 pub fn packet(profile: u32, id: u32, priority: u32, lifetime: u32, arrival: u64) -> Packet {
     Packet {
@@ -73,9 +78,7 @@ pub fn late(profile: u32, lengths: [usize; 4]) -> State {
     let mut state = fresh(profile);
     state.stamp = 77;
     state.time = time;
-    state.any = true;
-    state.at = time - 10_000;
-    state.ontime = 1;
+    state = state.with_admissions(&[admission(time - 10_000, 1)]);
     for (priority, length) in lengths.into_iter().enumerate() {
         let waiting: Vec<Packet> = (0..length)
             .map(|i| {

@@ -14,6 +14,7 @@ mod refusals;
 mod rules_whole;
 mod runs;
 mod samples;
+mod second;
 mod slips;
 mod soundness;
 mod writer;

@@ -1,6 +1,8 @@
 //! "Waiting and leaving": order, expiry, the wait.
 
-use crate::help::{assert_refused, fresh, late, offered, old, sampled, sent, Answer, PROFILES};
+use crate::help::{
+    admission, assert_refused, fresh, late, offered, old, sampled, sent, Answer, PROFILES,
+};
 use reference::state::Packet;
 use reference::{gate, rules};
 
@@ -112,8 +114,7 @@ fn the_gate_opens_exactly_when_the_wait_after_the_on_time_is_over() {
             for ontime in [1, 2, most / 2, most] {
                 let mut state = late(profile, [2, 0, 0, 0]);
                 state.level = level;
-                state.at = state.time;
-                state.ontime = ontime;
+                state = state.with_admissions(&[admission(state.time, ontime)]);
                 let closed = ontime + rules::wait_reactive(profile, level).unwrap();
                 let (_, answer) = gate::poll(state, state.stamp);
                 assert_eq!(answer, Answer::Closed(u64::from(closed)));

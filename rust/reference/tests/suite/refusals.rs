@@ -142,6 +142,7 @@ fn order_9_then_2_then_3() {
     for profile in PROFILES {
         let mut state = late(profile, [5, 5, 5, 5]);
         state.time = 1_000_000_000_000_000;
+        state = state.with_admissions(&[]);
         for result in worst_calls(state, state.stamp.wrapping_add(BACK)) {
             assert_refused(state, result, 2);
         }

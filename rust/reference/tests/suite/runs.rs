@@ -112,11 +112,12 @@ impl Caller {
     }
 }
 
-/// The book's columns hold what the state's queues hold, and its counts are
-/// the state's.
+/// The book's columns hold what the state's queues hold, its counts are the
+/// state's, and its last second is the state's ledger.
 fn columns_agree(book: &Book, state: &State) {
     assert_eq!((book.time(), book.stamp()), (state.time, state.stamp));
     assert_eq!(book.compare(&state.counts), Ok(()));
+    assert_eq!(book.compare_ledger(&state.ledger), Ok(()));
     for (column, queue) in book.columns().iter().zip(&state.queues) {
         let column: Vec<Packet> = column.iter().map(|entry| entry.packet).collect();
         assert_eq!(column, queue.waiting());
@@ -214,7 +215,7 @@ fn the_claim_holds_in_profile_3() {
 }
 
 /// Takes one call of a run; the book holds its answer to demand 3.
-fn told((state, book): &mut (State, Book), call: Call) -> Answer {
+pub fn told((state, book): &mut (State, Book), call: Call) -> Answer {
     let (next, answer) = gate::call(*state, &call);
     book.feed(&call, &answer).unwrap();
     *state = next;
@@ -289,9 +290,20 @@ fn the_ceiling_is_kept_at_the_greatest_duty_and_load() {
             stamp,
         };
         told(&mut run, offer);
-        told(&mut run, Call::Poll { stamp });
-        let wait = rules::wait(3, 0, run.0.duty, run.0.ontime).unwrap();
-        stamp = stamp.wrapping_add(wait);
+        // Sent now, or at the very µs that CLOSED says.
+        if let Answer::Closed(left) = told(&mut run, Call::Poll { stamp }) {
+            stamp = stamp.wrapping_add(left as u32);
+            let near = stamp.wrapping_sub(1);
+            assert_eq!(
+                told(&mut run, Call::Poll { stamp: near }),
+                Answer::Closed(1)
+            );
+            told(&mut run, Call::Poll { stamp });
+        }
+        assert_eq!(run.1.compare_ledger(&run.0.ledger), Ok(()));
     }
     assert_eq!(run.1.counts().sent, 20_000);
+    assert_eq!(run.1.closest().shortest_gap, Some(25_000));
+    // Three times the four; with one more of them it would be too much.
+    assert_eq!(run.1.closest().fullest_stretch, 28_500);
 }

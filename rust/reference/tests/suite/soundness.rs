@@ -1,10 +1,13 @@
 //! "A state is sound if": each rule broken alone, and odd states that are sound.
 
-use crate::help::{assert_refused, fresh, late, old, Answer, ACCEPTED_MOST, PROFILES};
+use std::collections::BTreeMap;
+
+use crate::help::{admission, assert_refused, fresh, late, old, Answer, ACCEPTED_MOST, PROFILES};
 use reference::gate;
+use reference::ledgers::{self, row};
 use reference::miscounts::{one_off, wrapping};
 use reference::rng::Rng;
-use reference::state::{broken_rules, rule_names, sound, Packet, State};
+use reference::state::{broken_rules, rule_names, sound, Admission, Ledger, Packet, State};
 
 /// The lengths tried; each queue is tried at 0 to 5.
 const LENGTHS: [[usize; 4]; 6] = [
@@ -194,42 +197,42 @@ fn kept_sample() {
     }
 }
 
+/// The state at another time, its ledger as it then is.
+fn at_time(state: &State, time: u64) -> State {
+    let last: Vec<Admission> = state.last().into_iter().collect();
+    State { time, ..*state }.with_admissions(&last)
+}
+
 #[test]
 fn running_time() {
     for start in starts() {
-        is_sound(&State {
-            time: 1_000_000_000_000_000,
-            ..start
-        });
+        is_sound(&at_time(&start, 1_000_000_000_000_000));
         for time in [1_000_000_000_000_001, u64::MAX] {
-            breaks_only(&State { time, ..start }, "running time at most 10^15");
+            breaks_only(&at_time(&start, time), "running time at most 10^15");
         }
     }
 }
 
 #[test]
-fn admission() {
+fn last_admission() {
     for start in starts() {
-        let admitted = State {
-            any: true,
-            at: start.time,
-            ontime: 1,
-            ..start
-        };
-        is_sound(&admitted);
-        is_sound(&State { at: 0, ..admitted });
+        let admitted = |at, ontime| start.with_admissions(&[admission(at, ontime)]);
+        is_sound(&admitted(start.time, 1));
+        is_sound(&admitted(0, 1));
         for at in [start.time + 1, u64::MAX] {
-            let state = State { at, ..admitted };
-            breaks_only(&state, "admission not after running time");
+            breaks_only(&admitted(at, 1), "admission not after running time");
         }
         let most = [1_000, 500, 4_000][start.profile as usize - 1];
-        is_sound(&State {
-            ontime: most,
-            ..admitted
-        });
+        is_sound(&admitted(start.time, most));
         for ontime in [0, most + 1, u32::MAX] {
-            let state = State { ontime, ..admitted };
+            // So old that it stands in no ledger.
+            let late = State {
+                time: start.time + 1_000_000,
+                ..start
+            };
+            let state = late.with_admissions(&[admission(start.time, ontime)]);
             breaks_only(&state, "admission on-time allowed");
+            all_calls_refuse(&admitted(start.time, ontime));
         }
     }
 }
@@ -237,12 +240,7 @@ fn admission() {
 #[test]
 fn admission_fields_before_the_first() {
     for start in starts() {
-        let none = State {
-            any: false,
-            at: 0,
-            ontime: 0,
-            ..start
-        };
+        let none = start.with_admissions(&[]);
         is_sound(&none);
         for at in [1, start.time.max(1), u64::MAX] {
             let state = State { at, ..none };
@@ -455,6 +453,115 @@ fn old_way() {
     }
 }
 
+/// States of a profile whose ledgers are the row of each kind that it allows.
+fn with_ledgers(profile: u32) -> Vec<State> {
+    let state = late(profile, [1, 0, 2, 0]);
+    let most = [1_000, 500, 4_000][profile as usize - 1];
+    let mut rows = vec![
+        vec![],
+        row(1, 0, 1, state.time),
+        row(1, 0, most, state.time - 999_999),
+        row(2, 25_000, most, state.time - 974_999),
+        row(40, 25_000, most.min(750), state.time),
+        row(40, 25_000, most.min(750), state.time - 24_999),
+        row(40, 25_000, 1, state.time - 7),
+    ];
+    if profile != 2 {
+        let many = u64::from(30_000 / most);
+        rows.push(row(many, 30_000, most, state.time - 3));
+    }
+    let states = rows.iter().map(|row| state.with_admissions(row));
+    states.collect()
+}
+
+#[test]
+fn ledgers_that_are_good() {
+    let mut rng = Rng::new(208);
+    for profile in PROFILES {
+        for state in with_ledgers(profile) {
+            is_sound(&state);
+        }
+        for _ in 0..500 {
+            let state = late(profile, [1, 0, 2, 0]);
+            let held = ledgers::good(profile, state.time, &mut rng);
+            let state = state.with_admissions(&held);
+            assert_eq!(state.ledger.held(), held);
+            is_sound(&state);
+        }
+    }
+}
+
+/// Each rule of the ledger broken alone, in every place.
+#[test]
+fn ledgers_that_are_broken() {
+    let mut rng = Rng::new(209);
+    let mut tried = BTreeMap::new();
+    for profile in PROFILES {
+        let mut states = with_ledgers(profile);
+        states.push(fresh(profile));
+        for _ in 0..30 {
+            let state = late(profile, [0, 1, 0, 0]);
+            let held = ledgers::good(profile, state.time, &mut rng);
+            states.push(state.with_admissions(&held));
+        }
+        for state in states {
+            for (rule, bent) in ledgers::broken(&state) {
+                breaks_only(&bent, rule);
+                *tried.entry(rule).or_insert(0) += 1;
+            }
+        }
+    }
+    let rules = rule_names();
+    for rule in rules.iter().filter(|rule| rule.starts_with("ledger")) {
+        assert!(tried.get(rule) > Some(&100), "{rule}: {tried:?}");
+    }
+}
+
+/// The request's numbers, each a µs to both sides.
+#[test]
+fn the_numbers_of_the_ledger() {
+    for profile in PROFILES {
+        let state = late(profile, [1, 0, 0, 0]);
+        let with = |held: &[Admission]| {
+            let mut state = state.with_admissions(held);
+            state.ledger = Ledger::of(held);
+            state
+        };
+        let time = state.time;
+        is_sound(&with(&row(2, 25_000, 1, time)));
+        let near = with(&row(2, 24_999, 1, time));
+        breaks_only(&near, "ledger in order, gaps at least 25,000");
+        is_sound(&with(&row(2, 999_999, 1, time)));
+        let aged = with(&row(2, 1_000_000, 1, time));
+        breaks_only(&aged, "ledger younger than 1,000,000");
+        is_sound(&with(&[]));
+        is_sound(&with(&row(40, 25_000, 1, time)));
+    }
+    for (profile, many, ontime) in [(1, 30, 1_000), (3, 10, 3_000)] {
+        let state = late(profile, [1, 0, 0, 0]);
+        let mut held = row(many, 30_000, ontime, state.time);
+        is_sound(&state.with_admissions(&held));
+        held[1].ontime -= 1;
+        is_sound(&state.with_admissions(&held));
+        held.insert(0, admission(state.time - 930_000, 1));
+        is_sound(&state.with_admissions(&held));
+        held[0].ontime = 2;
+        breaks_only(&state.with_admissions(&held), "ledger sum at most 30,000");
+    }
+}
+
+/// An admission of the last second that is not in the ledger, or one that is in
+/// it and was never the last, can't be seen; a ledger with a hole is sound.
+#[test]
+fn a_ledger_with_a_hole_is_sound() {
+    for profile in PROFILES {
+        let state = late(profile, [1, 0, 0, 0]);
+        let mut held = row(10, 60_000, 1, state.time);
+        held.remove(4);
+        is_sound(&state.with_admissions(&held));
+    }
+}
+
 #[test]
 fn odd_but_sound() {
     for profile in [1, 2] {
@@ -476,7 +583,7 @@ fn odd_but_sound() {
         is_sound(&old(fresh(profile)).counted(0, 0, 7));
         // Expired packets still wait, as a sample leaves them.
         let mut state = late(profile, [5, 5, 5, 5]);
-        state.time += 60_000_000;
+        state = at_time(&state, state.time + 60_000_000);
         is_sound(&state);
         // An admission at time 0, and one younger than no packet.
         is_sound(&State { at: 0, ..state });
@@ -486,11 +593,8 @@ fn odd_but_sound() {
             slot.arrival = state.time;
         }
         is_sound(&state);
-        // Admissions closer than any wait cannot be seen in a state.
-        is_sound(&State {
-            at: state.time,
-            ..state
-        });
+        // Admissions closer than the wait, as long as they are 25,000 µs apart.
+        is_sound(&state.with_admissions(&row(2, 25_000, 1, state.time)));
     }
 }
 
@@ -511,6 +615,9 @@ fn several_rules_at_once_are_all_named() {
     state.queues[1].len = u64::MAX;
     state.queues[2].slots[0].id = 1;
     state.counts.accepted = u64::MAX;
+    let [far, near] = [u64::MAX, 1].map(|at| admission(at, 0));
+    state.ledger = Ledger::of(&[far, near]);
+    state.ledger.slots[9] = far;
     let broken = broken_rules(&state);
     let unbroken = [
         "sample kept only in profile 3",
@@ -518,6 +625,8 @@ fn several_rules_at_once_are_all_named() {
         "admission on-time allowed",
         "waiting in its own priority's queue",
         "arrival not after running time",
+        "ledger length at most 40",
+        "ledger sum at most 30,000",
     ];
     let mut expected = rule_names();
     expected.retain(|name| !unbroken.contains(name));

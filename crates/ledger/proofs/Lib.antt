@@ -1,0 +1,8 @@
+pub mod Known
+pub mod Walk
+pub mod Newest
+pub mod Sound
+pub mod Zeros
+pub mod Walking
+pub mod Meaning
+pub mod Worked

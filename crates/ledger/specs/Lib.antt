@@ -1,0 +1,2 @@
+-- A ledger of forty places.
+pub mod Layout
