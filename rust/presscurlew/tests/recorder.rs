@@ -6,7 +6,9 @@
 mod help;
 mod program;
 
+use std::collections::HashSet;
 use std::io::{self, ErrorKind, Write};
+use std::mem::discriminant;
 use std::panic::{catch_unwind, AssertUnwindSafe};
 
 use help::{edge_or, gates, random_words, EDGE_COUNTS, EDGE_LIFETIMES, EDGE_STEPS, WHEN_FULL};
@@ -288,6 +290,8 @@ fn some_deeds(seed: u64) -> Vec<Deed> {
     let mut rng = Rng::new(seed);
     let mut deeds: Vec<Deed> = (0..30).map(|k| any_deed(&mut rng, k * 20_000)).collect();
     deeds.insert(3, Deed::Burst([(any_offer(&mut rng), 70_000); 4].to_vec()));
+    let kinds: HashSet<_> = deeds.iter().map(discriminant).collect();
+    assert_eq!(kinds.len(), 5, "seed {seed:#x} has calls of each kind");
     deeds
 }
 
