@@ -222,7 +222,8 @@ presscurlew_turn presscurlew_make(uint32_t profile, uint32_t when_full, uint32_t
  *
  * Load is 1,000 for each busy probe. Profiles 1 and 2 move the level by at most one towards the one that the
  * load wants. Profile 3 keeps each odd sample, and with each even one updates smoothed load and duty. A
- * sample expires nothing and counts nothing; it drops aged admissions from the ledger, as every call that is not refused does.
+ * sample expires nothing and counts nothing. It drops aged admissions from the ledger, as every call does that is
+ * not refused.
  *
  *   uint64_t words[16] = {0};
  *   for (unsigned k = 0; k < 1000; k++)

@@ -13,7 +13,7 @@ use help::{
     TIME_END,
 };
 use reference::log::{read, Record, RECORD_BYTES};
-use reference::state::{sound, Packet, State};
+use reference::state::{sound, Admission, Packet, State};
 
 /// What is left of the input.
 struct Input<'a> {
@@ -45,7 +45,7 @@ impl Input<'_> {
 
     /// A time not far before `now`, now and then one after it.
     fn time_before(&mut self, now: u64) -> u64 {
-        let back = self.of(&[0, 1, 59_999, 60_000, 1_000_000, 60_000_000]);
+        let back = self.of(&[0, 1, 25_000, 59_999, 60_000, 999_999, 1_000_000, 60_000_000]);
         match self.byte() {
             255 => now.wrapping_add(u64::from(back)),
             _ => now.saturating_sub(u64::from(back)),
@@ -86,13 +86,35 @@ impl Input<'_> {
         state.smoothed = self.of(&[0, 680_000, 1_000_000, 1_000_001]);
         state.haskept = self.byte() % 2 == 1;
         state.kept = self.of(&[0, 400_000, 1_000_000, 1_000_001]);
-        state.any = self.byte() % 2 == 1;
-        if state.any || self.byte() == 255 {
-            state.at = self.time_before(state.time);
-            state.ontime = self.of(&[1, 500, 501, 1_000, 1_001, 4_000, 4_001, 0]);
-        }
         self.fill_queues(&mut state);
+        let state = self.admitted(state);
         self.counted(state)
+    }
+
+    /// The state with a last admission and those before it in a ledger, often a sound one.
+    fn admitted(&mut self, state: State) -> State {
+        let many = self.of(&[0, 1, 2, 7, 8, 30, 39, 40, 41]) % 64;
+        let mut at = self.time_before(state.time);
+        let mut admissions = vec![];
+        for _ in 0..many {
+            let ontime = self.of(&[1, 500, 750, 751, 501, 1_000, 1_001, 4_000, 4_001, 0]);
+            admissions.push(Admission { at, ontime });
+            let apart = self.of(&[25_000, 25_001, 30_000, 24_999, 133_334, 0]);
+            at = at.saturating_sub(u64::from(apart));
+        }
+        admissions.reverse();
+        let mut state = state.with_admissions(&admissions);
+        let place = usize::from(self.byte()) % state.ledger.slots.len();
+        match self.byte() {
+            250 => state.at = self.time_before(state.time),
+            251 => state.ontime = self.of(&[1, 500, 0]),
+            252 => state.any = !state.any,
+            253 => state.ledger.len = u64::from(self.number()) << (self.byte() % 64),
+            254 => state.ledger.slots[place].at = self.time_before(state.time),
+            255 => state.ledger.slots[place].ontime = self.number(),
+            _ => {}
+        }
+        state
     }
 
     /// The state with counts that add up, now and then with one that is off.
@@ -141,9 +163,10 @@ impl Input<'_> {
     }
 
     fn stamp_after(&mut self, last: u32) -> u32 {
-        // Waits, and those after the longest on-time.
+        // Waits, those after the longest on-time, and times until an admission has aged.
         let turns = [
-            0, 50_000, 50_500, 60_000, 100_000, 101_000, 1_000_000, 1_000_500, 1_001_000,
+            0, 25_000, 50_000, 50_500, 60_000, 66_662, 100_000, 101_000, 975_000, 999_999,
+            1_000_000, 1_000_500, 1_001_000,
         ];
         let step = self.of(&EDGE_STEPS) ^ self.of(&turns);
         last.wrapping_add(step)

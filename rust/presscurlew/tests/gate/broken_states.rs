@@ -7,22 +7,23 @@ use crate::help::{
     calls_at, hold, hold_no_state, hold_no_state_burst, raw, ACCEPTED_MOST, PROFILES, TIME_END,
 };
 use presscurlew::sys;
+use reference::ledgers::{self, row};
 use reference::miscounts::{one_off, wrapping};
 use reference::rng::Rng;
 use reference::rules;
-use reference::state::{broken_rules, rule_names, Counts, Packet, Queue, State};
+use reference::state::{broken_rules, rule_names, sound, Admission, Counts, Packet, Queue, State};
 
 const TIME: u64 = 5_000_000_000;
 
-/// A sound state with this many packets in each queue; something was admitted, and profile 3 keeps a sample. With an
-/// odd number a full queue refuses, with an even one it drops its oldest.
+/// A sound state with this many packets in each queue, and the more admissions the more packets; profile 3 keeps a
+/// sample. With an odd number a full queue refuses, with an even one it drops its oldest.
 fn base(profile: u32, length: usize) -> State {
     let ontime = rules::on_time_max(profile).unwrap();
     let mut state = State::fresh(profile, length as u32 % 2, 77);
     state.time = TIME;
     state.haskept = profile == 3;
     state.kept = if state.haskept { 400_000 } else { 0 };
-    (state.any, state.at, state.ontime) = (true, TIME - 10, ontime);
+    let admissions = row(1 + 7 * length as u64, 25_000, ontime.min(750), TIME - 10);
     for priority in 0..4 {
         let packet = Packet {
             id: 5,
@@ -33,7 +34,32 @@ fn base(profile: u32, length: usize) -> State {
         };
         state.queues[priority as usize] = Queue::of(&vec![packet; length]);
     }
-    state.counted(700, 40, 9)
+    state.with_admissions(&admissions).counted(700, 40, 9)
+}
+
+/// Sound states with ledgers at the edges of their rules, as far as the profile allows such on-times.
+pub fn ledger_states(profile: u32) -> Vec<State> {
+    let state = base(profile, 2);
+    let most = rules::on_time_max(profile).unwrap();
+    let mut rows = vec![
+        vec![],
+        row(1, 0, 1, TIME),
+        row(1, 0, most, TIME - 999_999),
+        row(2, 25_000, most, TIME - 974_999),
+        row(2, 999_999, most, TIME),
+        row(40, 25_000, most.min(750), TIME),
+        row(40, 25_000, most.min(750), TIME - 24_999),
+        row(40, 25_000, 1, TIME - 7),
+    ];
+    if profile != 2 {
+        // The fewest that fill the second.
+        let many = rules::SECOND_MOST.div_ceil(u64::from(most));
+        let mut few = row(many, 30_000, most, TIME - 3);
+        few[0].ontime = (rules::SECOND_MOST - (many - 1) * u64::from(most)) as u32;
+        rows.push(few);
+    }
+    let states = rows.iter().map(|row| state.with_admissions(row));
+    states.collect()
 }
 
 /// Broken states, each with the name of the rule that it breaks.
@@ -91,16 +117,27 @@ impl Broken {
     fn clock_and_last(&mut self, profile: u32) {
         let full = base(profile, 5);
         let longest = rules::on_time_max(profile).unwrap();
+        let admitted = |s: &mut State, at, ontime| {
+            *s = s.with_admissions(&[Admission { at, ontime }]);
+        };
         for bad in [TIME_END + 1, 1 << 63, u64::MAX] {
-            self.add("running time at most 10^15", full, |s| s.time = bad);
+            self.add("running time at most 10^15", full, |s| {
+                s.time = bad;
+                admitted(s, TIME, 1);
+            });
         }
         for bad in [TIME + 1, TIME_END, u64::MAX] {
-            self.add("admission not after running time", full, |s| s.at = bad);
+            self.add("admission not after running time", full, |s| {
+                admitted(s, bad, 1);
+            });
         }
         for bad in [0, longest + 1, u32::MAX] {
-            self.add("admission on-time allowed", full, |s| s.ontime = bad);
+            // So old that it stands in no ledger.
+            self.add("admission on-time allowed", full, |s| {
+                admitted(s, TIME - 1_000_000, bad);
+            });
         }
-        let none = |s: &mut State| (s.any, s.at, s.ontime) = (false, 0, 0);
+        let none = |s: &mut State| *s = s.with_admissions(&[]);
         for bad in [1, TIME] {
             self.add("admission time zero before the first", full, |s| {
                 none(s);
@@ -205,6 +242,9 @@ impl Broken {
             broken.clock_and_last(profile);
             broken.lengths(profile);
             broken.counts(State::fresh(profile, 0, 77), &mut rng);
+            for state in ledger_states(profile) {
+                broken.states.extend(ledgers::broken(&state));
+            }
             for length in 0..=5 {
                 broken.counts(base(profile, length), &mut rng);
                 for queue in 0..4 {
@@ -245,14 +285,40 @@ fn hold_all_calls(state: &sys::State, origin: &dyn std::fmt::Display) {
 #[test]
 fn bases_are_sound() {
     for profile in PROFILES {
-        for length in 0..=5 {
-            let state = base(profile, length);
+        let bases = (0..=5).map(|length| base(profile, length));
+        for state in bases.chain(ledger_states(profile)) {
             assert_eq!(broken_rules(&state), [""; 0]);
             for call in calls_at(profile, 78) {
                 hold(&state, &call, &"base");
             }
         }
     }
+}
+
+/// Numbers of a ledger that are far off, in every place: in most of these more than one rule is broken.
+#[test]
+fn ledgers_of_wild_numbers_are_refused_with_9() {
+    let mut refused = 0;
+    for profile in PROFILES {
+        for state in ledger_states(profile) {
+            for place in 0..40 {
+                let Admission { at, ontime } = state.ledger.slots[place];
+                let ats = [0, at + (1 << 32), at ^ 1 << 63, TIME + 1, u64::MAX];
+                let ontimes = [ontime + (1 << 16), ontime ^ 1 << 31, u32::MAX];
+                let bent = ats.map(|at| Admission { at, ontime });
+                let bent = bent.into_iter();
+                let bent = bent.chain(ontimes.map(|ontime| Admission { at, ontime }));
+                for admission in bent.filter(|bent| *bent != state.ledger.slots[place]) {
+                    let mut state = state;
+                    state.ledger.slots[place] = admission;
+                    assert!(!sound(&state), "{state:?}");
+                    hold_all_calls(&raw(&state), &format_args!("{state:?}"));
+                    refused += 1;
+                }
+            }
+        }
+    }
+    assert!(refused > 3 * 8 * 40 * 7, "only {refused}");
 }
 
 #[test]
@@ -325,6 +391,11 @@ fn states_of_no_sense_are_refused_with_9() {
             len: u64::from(fill),
             slots: [packet; 5],
         }; 4];
+        state.ledger = sys::Ledger {
+            len: u64::from(fill),
+            ats: [u64::from(fill); 40],
+            ontimes: [fill; 40],
+        };
         state.profile = fill;
         state.oldway = fill;
         let count = u64::from(fill);

@@ -33,6 +33,8 @@ fn full(profile: u32, way: u32) -> sys::State {
         ontime: 7,
         admitted: 1,
     };
+    state.ledger.len = 1;
+    (state.ledger.ats[0], state.ledger.ontimes[0]) = (NOW - 3, 7);
     for (priority, queue) in (0..).zip(&mut state.queues) {
         queue.len = 5;
         queue.slots = [0, 1, 2, 3, 4].map(|place| waiting(priority, place));

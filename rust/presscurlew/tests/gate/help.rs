@@ -8,7 +8,7 @@ use reference::gate;
 use reference::log::{Record, RECORD_BYTES};
 use reference::rng::Rng;
 use reference::rules;
-use reference::state::{Counts, Packet, Queue, State};
+use reference::state::{Counts, Ledger, Packet, Queue, State};
 use reference::writer;
 
 pub use reference::gate::{Answer, Call};
@@ -91,10 +91,19 @@ fn raw_queue(queue: &Queue) -> sys::Queue {
     }
 }
 
+fn raw_ledger(ledger: &Ledger) -> sys::Ledger {
+    sys::Ledger {
+        len: ledger.len,
+        ats: ledger.slots.map(|admission| admission.at),
+        ontimes: ledger.slots.map(|admission| admission.ontime),
+    }
+}
+
 /// A state of the reference as the archive has it.
 pub fn raw(state: &State) -> sys::State {
     sys::State {
         queues: state.queues.each_ref().map(raw_queue),
+        ledger: raw_ledger(&state.ledger),
         clock: sys::Clock {
             time: state.time,
             stamp: state.stamp,

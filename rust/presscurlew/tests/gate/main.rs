@@ -5,6 +5,7 @@
 //! - `broken_states`: states with one rule of soundness broken
 //! - `bursts`: many offers in one call
 //! - `displaced`: what an offer does to a full queue
+//! - `second`: thirty milliseconds in any second
 //! - `refusals`: which refusal comes first, and that it changes nothing
 //! - `samples`: the busy count of words
 //! - `sample_log`: the requirement's own log
@@ -22,5 +23,6 @@ mod runs;
 mod safe;
 mod sample_log;
 mod samples;
+mod second;
 mod sound_states;
 mod writer;

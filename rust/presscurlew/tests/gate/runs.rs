@@ -109,7 +109,8 @@ impl Caller {
         }
     }
 
-    /// The step to the moment when a packet expires, the gate opens or the time ends, or one beside it.
+    /// The step to the moment when a packet expires, the wait is over, an admission is a second old or the time ends, or
+    /// one beside it.
     fn step_to_turn(&mut self, state: &State) -> u32 {
         let mut turns = vec![state.time];
         for queue in &state.queues {
@@ -120,6 +121,8 @@ impl Caller {
             let closed = rules::closed_for(state.profile, state.level, state.duty, state.ontime);
             turns.push(state.at + closed.unwrap());
         }
+        let admissions = state.ledger.held().iter();
+        turns.extend(admissions.map(|admission| admission.at + rules::SECOND));
         if TIME_END - state.time < 1 << 32 {
             turns.push(TIME_END);
         }
@@ -205,7 +208,7 @@ impl fmt::Display for Place {
 }
 
 /// A fresh state, held to the reference.
-fn made(profile: u32, way: u32, stamp: u32) -> State {
+pub fn made(profile: u32, way: u32, stamp: u32) -> State {
     let (state, answer) = gate::make(profile, way, stamp);
     let turn = sys::presscurlew_make(profile, way, stamp);
     let expected = sys::Turn {
@@ -232,7 +235,8 @@ fn run(mut place: Place, tally: &mut Tally) {
         let (next, answer) = hold(&state, &asked, &place);
         let fed = book.feed(&asked, &answer);
         let counted = fed.and_then(|()| book.compare(&next.counts));
-        assert_eq!(counted, Ok(()), "{place}: {asked:?} on {state:?}");
+        let kept = counted.and_then(|()| book.compare_ledger(&next.ledger));
+        assert_eq!(kept, Ok(()), "{place}: {asked:?} on {state:?}");
         tally.count(&answer);
         state = next;
     }
@@ -394,6 +398,7 @@ fn run_to_the_end_of_time() {
             let (next, answer) = hold(&state, &call, &format!("profile {profile}, to the end"));
             book.feed(&call, &answer).unwrap();
             book.compare(&next.counts).unwrap();
+            book.compare_ledger(&next.ledger).unwrap();
             ends += u32::from(answer == Answer::Refused(3));
             state = next;
         }

@@ -1,10 +1,11 @@
 //! Sound states made field by field. Most are reached by no run: a level in profile 3, a duty in profile 1,
 //! queues of packets that expired long ago, any running time beside any stamp, any counts that add up, displaced ones in
-//! a gate that refuses.
+//! a gate that refuses, a ledger that no wait of its profile leads to.
 
 use crate::help::{
     calls_at, edge_or, hold, Answer, Call, ACCEPTED_MOST, EDGE_STEPS, PROFILES, TIME_END, WAYS,
 };
+use reference::ledgers;
 use reference::rng::Rng;
 use reference::rules;
 use reference::state::{sound, Packet, Queue, State};
@@ -51,7 +52,6 @@ fn queue(rng: &mut Rng, profile: u32, priority: u32, time: u64) -> Queue {
 /// Any sound state of a profile.
 pub fn sound_state(rng: &mut Rng, profile: u32) -> State {
     let time = time_up_to(rng, TIME_END);
-    let longest = u64::from(rules::on_time_max(profile).unwrap());
     let mut state = State {
         live: true,
         profile,
@@ -67,17 +67,30 @@ pub fn sound_state(rng: &mut Rng, profile: u32) -> State {
         state.haskept = true;
         state.kept = edge_or(rng, &EDGE_LOADS, FULL_LOAD);
     }
-    if !rng.one_in(4) {
-        state.any = true;
-        state.at = time_up_to(rng, time);
-        state.ontime = 1 + rng.below(longest) as u32;
-    }
     for priority in 0..4 {
         if !rng.one_in(3) {
             state.queues[priority as usize] = queue(rng, profile, priority, time);
         }
     }
+    let state = admitted(rng, state);
     counted(rng, state)
+}
+
+/// The state with admissions: none, one of any age, or so many in the last second as a ledger may hold.
+fn admitted(rng: &mut Rng, state: State) -> State {
+    let longest = rules::on_time_max(state.profile).unwrap();
+    let ontime = 1 + rng.below(u64::from(longest)) as u32;
+    let admissions = match rng.below(8) {
+        0 | 1 => vec![],
+        2..=4 => ledgers::row(1, 0, ontime, time_up_to(rng, state.time)),
+        _ if state.time < rules::SECOND => {
+            let most = 1 + state.time / rules::GAP_LEAST;
+            let many = 1 + rng.below(most.min(40));
+            ledgers::row(many, rules::GAP_LEAST, ontime.min(750), state.time)
+        }
+        _ => ledgers::good(state.profile, state.time, rng),
+    };
+    state.with_admissions(&admissions)
 }
 
 /// The state with counts that add up, often with few offers left or none.
@@ -117,12 +130,7 @@ fn sound_states_are_answered_as_the_reference_answers() {
 
 /// The state with counts at their edges, as it is and with nothing admitted.
 fn with_edge_counts(state: State) -> Vec<State> {
-    let unadmitted = State {
-        any: false,
-        at: 0,
-        ontime: 0,
-        ..state
-    };
+    let unadmitted = state.with_admissions(&[]);
     let most = ACCEPTED_MOST - state.waiting() as u64;
     let mut states = Vec::new();
     for gone in [0, 1, most - 1, most] {

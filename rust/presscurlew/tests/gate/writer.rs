@@ -96,48 +96,55 @@ fn the_bytes_of_each_call() {
 
 /// The numbers that a call is refused with, by hand; 0 where it fits, whatever it is worth.
 fn numbers() -> Vec<(LogCall, u32)> {
+    let makes = [
+        (0, 0, 0),
+        (77, 1, 0),
+        (255, 1, 0),
+        (256, 0, 1),
+        (257, 1, 1),
+        (u32::MAX, 0, 1),
+        (1, 2, 1),
+        (1, 256, 1),
+        (255, u32::MAX, 1),
+        (256, 2, 1),
+    ];
+    let offers = [
+        (255, 65_535, 0),
+        (200, 0, 0),
+        (256, 1, 5),
+        (u32::MAX, 1, 5),
+        (256, 65_536, 5),
+        (255, 65_536, 6),
+        (0, 65_537, 6),
+        (0, u32::MAX, 6),
+    ];
+    let mut all = vec![(poll(7), 0)];
+    all.extend(makes.map(|(profile, way, number)| (make(profile, way, 7), number)));
+    all.extend(offers.map(|(priority, ontime, number)| {
+        let odd = Offer {
+            priority,
+            ontime,
+            ..ODD
+        };
+        (offer(odd, 7), number)
+    }));
+    all.extend([0, 5_000, u32::MAX].map(|busy| (by_count(busy, 7), 0)));
+    all.extend(samples());
+    all
+}
+
+fn samples() -> [(LogCall, u32); 6] {
     let mut stray = first_busy(400);
     stray[15] |= 1 << 40;
-    let with = |priority, ontime| {
-        offer(
-            Offer {
-                priority,
-                ontime,
-                ..ODD
-            },
-            7,
-        )
-    };
-    vec![
-        (make(0, 0, 7), 0),
-        (make(77, 1, 7), 0),
-        (make(255, 1, 7), 0),
-        (make(256, 0, 7), 1),
-        (make(257, 1, 7), 1),
-        (make(u32::MAX, 0, 7), 1),
-        (make(1, 2, 7), 1),
-        (make(1, 256, 7), 1),
-        (make(255, u32::MAX, 7), 1),
-        (make(256, 2, 7), 1),
-        (by_count(0, 7), 0),
-        (by_count(5_000, 7), 0),
-        (by_count(u32::MAX, 7), 0),
-        (by_words(first_busy(0), 7), 0),
-        (by_words(first_busy(1_000), 7), 0),
-        (by_words(vec![], 7), 4),
-        (by_words(vec![0; 15], 7), 4),
-        (by_words(vec![0; 17], 7), 4),
-        (by_words(stray, 7), 4),
-        (with(255, 65_535), 0),
-        (with(200, 0), 0),
-        (with(256, 1), 5),
-        (with(u32::MAX, 1), 5),
-        (with(256, 65_536), 5),
-        (with(255, 65_536), 6),
-        (with(0, 65_537), 6),
-        (with(0, u32::MAX), 6),
-        (poll(7), 0),
+    [
+        (first_busy(0), 0),
+        (first_busy(1_000), 0),
+        (vec![], 4),
+        (vec![0; 15], 4),
+        (vec![0; 17], 4),
+        (stray, 4),
     ]
+    .map(|(words, number)| (by_words(words, 7), number))
 }
 
 /// Every place near the start and the end of logs of 0 to 60 bytes, and places near 2^64, of each call: what is refused
