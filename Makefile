@@ -21,7 +21,7 @@ demo: demo-build
 	@echo
 	@echo 'A jam. A roadworks trailer wants to warn drivers, but its radio channel is 90 to 100 % busy, and stays so.'
 	@echo 'Polite radios back off. Presscurlew does too, and still promises two things, however loud the neighbours are:'
-	@echo '  ceiling   it is on air for at most 34 ms in any second: 3 %, and one longest packet of 4 ms'
+	@echo '  ceiling   it is on air for at most 30 ms in any second, and in any stretch of time for at most 3 % of it and 4 ms'
 	@echo '  floor     it never falls silent: a poll that finds a packet 1.001 s or more after the last one sends it'
 	@echo
 	@echo 'Below, each call that the trailer made and the answer of $(REPLAY).'
