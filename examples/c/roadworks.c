@@ -238,7 +238,7 @@ static void close_file(FILE *file) {
 static int make(host *h) {
     uint8_t call[PRESSCURLEW_RECORD_BYTES];
 
-    /* What the gate has taken it never drops, and the host hears at once of a message that finds no room. */
+    /* The map's pieces all differ: none that was taken may be displaced, and one that finds no room is told. */
     presscurlew_write_make(1, PRESSCURLEW_REFUSE_NEW, h->now, call, sizeof call, 0);
     record(h, call, 1);
     presscurlew_turn turn = presscurlew_make(1, PRESSCURLEW_REFUSE_NEW, h->now);

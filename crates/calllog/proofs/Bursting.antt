@@ -20,7 +20,7 @@ use Rattle.gate.proofs.Runs.{make-runs}
 use Rattle.calllog.specs.declared.Record.{Record}
 use Rattle.calllog.specs.Records.{recordBytes, recordAt}
 use Rattle.calllog.specs.Buffers.{written}
-use Rattle.calllog.specs.Bursts.{isOffer, offerOf, offeredBy, answerByte, offeredTo, answersTo, isTaken, recordsIn}
+use Rattle.calllog.specs.Bursts.{isOffer, offerOf, offeredBy, answerByte, offeredTo, answersTo, isAccepted, recordsIn}
 use Rattle.calllog.specs.Bursts.{burstState, burstAnswers, offersTo, answerOf, heardTo, AsSingleCalls, BurstsAreSingleCalls}
 use Rattle.calllog.specs.Bursts.{Move, one, burst, moved, callsOf, heardOf, movedAll, allCalls, allHeard}
 use Rattle.calllog.specs.Bursts.{journalHeard, BurstRun, RunsWithBursts}
@@ -79,7 +79,7 @@ heard-events s records bytes (suc n) h =
     ∙ sym (events-append s (offersTo records n) ds)
 
 -- the answer slice that a burst leaves has the answers in front
-byte-at : (s : State) (records answers : List ℕ) (k : ℕ) → isTaken records answers ≡ true → k < recordsIn records
+byte-at : (s : State) (records answers : List ℕ) (k : ℕ) → isAccepted records answers ≡ true → k < recordsIn records
     → getD (burstAnswers s records answers) k 0 ≡ byteOf s records k
 unfolding burstAnswers
 byte-at s records answers k e h =
@@ -110,7 +110,7 @@ move-done : (s : State) (m : Move) → MoveDone s m
 unfolding stateAfter eventsOn burstState
 move-done s (one c) = record { final = refl; heard = refl }
 move-done s (burst records answers) =
-    split (isTaken records answers)
+    split (isAccepted records answers)
     (λ e. let b = bursts-are-single-calls s records answers e in
     record { final = rw e (rw e at (b .final)); heard = rw e (b .answers-alike) })
     (λ e. record { final = rw e; heard = rw e })

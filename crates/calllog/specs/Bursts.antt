@@ -68,9 +68,9 @@ burstChecks bytes room =
 unfoldable pub burstNumber : (bytes room : ℕ) → ℕ
 burstNumber bytes room = firstOf (burstChecks bytes room)
 
--- a burst's records are taken: nothing refuses it
-abbrev pub isTaken : (records answers : List ℕ) → Bool
-isTaken records answers = eqb (burstNumber (length records) (length answers)) 0
+-- a burst that nothing refuses
+abbrev pub isAccepted : (records answers : List ℕ) → Bool
+isAccepted records answers = eqb (burstNumber (length records) (length answers)) 0
 
 -- how many records there are
 abbrev pub recordsIn : (records : List ℕ) → ℕ
@@ -79,12 +79,12 @@ recordsIn records = length records / recordBytes
 -- the state that a burst leaves: "Both leave state and answers unchanged."
 unfoldable pub burstState : State → (records answers : List ℕ) → State
 burstState s records answers =
-    cond (isTaken records answers) (offeredTo s records (recordsIn records)) s
+    cond (isAccepted records answers) (offeredTo s records (recordsIn records)) s
 
 -- the answer slice that it leaves: "Answer bytes past the last record are not written."
 unfoldable pub burstAnswers : State → (records answers : List ℕ) → List ℕ
 burstAnswers s records answers =
-    cond (isTaken records answers) (written answers 0 (answersTo s records (recordsIn records))) answers
+    cond (isAccepted records answers) (written answers 0 (answersTo s records (recordsIn records))) answers
 
 -- "the single calls in that order": the offers of the first n records
 unfoldable pub offersTo : (records : List ℕ) → ℕ → List Call
@@ -118,7 +118,7 @@ pub record AsSingleCalls (s : State) (records answers : List ℕ) : Type 0 where
 
 abbrev pub BurstsAreSingleCalls : Type 0
 BurstsAreSingleCalls =
-    (s : State) (records answers : List ℕ) → isTaken records answers ≡ true → AsSingleCalls s records answers
+    (s : State) (records answers : List ℕ) → isAccepted records answers ≡ true → AsSingleCalls s records answers
 
 -- what a host does: a single call, or a burst with the bytes that it lends for the answers
 pub data Move : Type 0 where
@@ -133,13 +133,13 @@ moved s (burst records answers) = burstState s records answers
 -- the single calls that a move counts as; a refused burst is none
 abbrev pub callsOf : Move → List Call
 callsOf (one c) = c ∷ []
-callsOf (burst records answers) = cond (isTaken records answers) (offersTo records (recordsIn records)) []
+callsOf (burst records answers) = cond (isAccepted records answers) (offersTo records (recordsIn records)) []
 
 -- those calls, each with the answer that the host has heard
 abbrev pub heardOf : State → Move → List (Call × Answer)
 heardOf s (one c) = (c, callOn s c .answer) ∷ []
 heardOf s (burst records answers) =
-    cond (isTaken records answers)
+    cond (isAccepted records answers)
     (heardTo records (burstAnswers s records answers) (recordsIn records))
     []
 

@@ -128,12 +128,14 @@ WritesExactly = (log : List ℕ) (at : ℕ) (a : Asked) → Exact (writeChecks l
 abbrev pub In32 : ℕ → Type 0
 In32 n = n < 256 ^ 4
 
+-- an offer's identifier; the other calls have none
 abbrev pub IdIn32 : Call → Type 0
 IdIn32 (words stamp ws) = Unit {0}
 IdIn32 (count stamp busy) = Unit {0}
 IdIn32 (offer stamp o) = In32 (o .id)
 IdIn32 (poll stamp) = Unit {0}
 
+-- a call whose stamp and identifier are of 32 bits, as those of every call of the code are
 abbrev pub Narrow : Asked → Type 0
 Narrow (makes m) = In32 (m .stamp)
 Narrow (calls c) = In32 (stampOf c) × IdIn32 c
@@ -146,6 +148,7 @@ byCount (count stamp busy) = count stamp busy
 byCount (offer stamp o) = offer stamp o
 byCount (poll stamp) = poll stamp
 
+-- what is read back of a call
 abbrev pub counted : Asked → Asked
 counted (makes m) = makes m
 counted (calls c) = calls (byCount c)
@@ -218,6 +221,7 @@ pub record ThereAndBack (log : List ℕ) (at : ℕ) : Type 0 where
       → WritesBack log at buffer place
   pub only : (buffer : List ℕ) (place : ℕ) → WritesBack log at buffer place → Plain (recordAt log at)
 
+-- of every record in a log of bytes
 abbrev pub BackExactly : Type 0
 BackExactly = (log : List ℕ) (at : ℕ) → Bytes log → at + recordBytes ≤ length log → ThereAndBack log at
 
@@ -233,6 +237,7 @@ pub record Shared (log : List ℕ) (at : ℕ) (a b : Asked) : Type 0 where
   pub answer : writeNumber log at a ≡ writeNumber log at b
   pub bytes : logAfter log at a ≡ logAfter log at b
 
+-- at every place of every log, refused or not
 abbrev pub ShareRecord : Type 0
 ShareRecord =
     (log : List ℕ) (at stamp : ℕ) (ws ws′ : List ℕ) → Alike ws ws′

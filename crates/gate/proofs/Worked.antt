@@ -1,13 +1,14 @@
 -- Worked examples of states in arrays, each computed from the definitions.
-use Prim.Native.Nat.{ℕ}
+use Prim.Native.Nat.{ℕ, zero, suc, _+_}
 use mathlib.Core.Path.{_≡_, refl}
 use mathlib.Core.Bool.{true, false}
-use mathlib.Core.List.{List, [], _∷_}
+use mathlib.Core.List.{List, [], _∷_, _++_, map}
 use Rattle.packing.specs.Packing.{filled, allAre, padded}
 use Rattle.model.specs.declared.Packet.{Packet}
-use Rattle.model.specs.declared.Answer.the-variants.{Ready, Taken, Sent, Refused}
+use Rattle.model.specs.declared.Admission.{Admission}
+use Rattle.model.specs.declared.Answer.the-variants.{Ready, Taken, Sent, Closed, Refused}
 use Rattle.model.specs.Packets.{noPacket}
-use Rattle.model.specs.Calls.{Call, offer, poll}
+use Rattle.model.specs.Calls.{Call, count, offer, poll}
 use Rattle.model.proofs.Computing.{of-runs}
 use Rattle.queue.specs.declared.Queue.{Queue}
 use Rattle.queue.specs.Layout.{packed}
@@ -96,3 +97,48 @@ refused-in-the-old-way :
     callOn old-five (offer 7 (record { id = 6; priority = 0; ontime = 400; lifetime = 1000 })) .answer ≡ Refused 8
 unfolding of-states old-five offers stateAfter
 refused-in-the-old-way = refl
+
+-- "Keep the admissions of the last second in the state" (document 02, W-207): what goes is noted, and every call that is not
+-- refused, a sample too, drops what has reached 1,000,000 µs of age
+sent-at-0 : State
+sent-at-0 = stateAfter fresh (offers (1 ∷ []) ++ (poll 7 ∷ []))
+
+noted-behind :
+    (sent-at-0 .ledger ≡ ledger.packed (ledger.admission 0 400 ∷ []))
+    × (sent-at-0 .ledger .len ≡ 1)
+    × (soundState sent-at-0 ≡ true)
+unfolding of-states sent-at-0 fresh empty offers stateAfter
+noted-behind = (refl, refl, refl)
+
+dropped-at-a-second :
+    map (λ (c : Call). callOn sent-at-0 c .state .ledger .len) (count 1000006 5 ∷ count 1000007 5 ∷ count 1000007 1001 ∷ [])
+    ≡ 1 ∷ 0 ∷ 1 ∷ []
+unfolding of-states sent-at-0 fresh empty offers stateAfter
+dropped-at-a-second = refl
+
+-- profile 1 too: a state that no run of it reaches, with 30,000 µs in its ledger, answers CLOSED until enough has aged
+thirty : (n from : ℕ) → List Admission
+thirty zero from = []
+thirty (suc n) from = ledger.admission from 1000 ∷ thirty n (from + 25000)
+
+lasting : Packet
+lasting = record { id = 1; priority = 0; ontime = 9; lifetime = 60000000; arrival = 0 }
+
+bound : (profile : ℕ) → State
+bound profile =
+    stateFrom
+    (record { len = 1; slots = lasting ∷ noPacket ∷ noPacket ∷ noPacket ∷ noPacket ∷ [] } ∷ empty ∷ empty ∷ empty ∷ [])
+    (ledger.packed (thirty 30 0)) 1
+    (record {
+      clock = record { time = 900000; stamp = 0 };
+      last = record { at = 725000; ontime = 1000; admitted = 1 };
+      counts = record { accepted = 1; sent = 0; expired = 0; displaced = 0 };
+      tuning = record { level = 0; duty = 30000000; smoothed = 0; kept = 0; pairing = 0 };
+      profile = profile;
+      oldway = 0;
+    })
+
+binds-in-every-profile :
+    map (λ (p : ℕ). callOn (bound p) (poll 0) .answer) (1 ∷ 3 ∷ []) ≡ Closed 100000 ∷ Closed 100000 ∷ []
+unfolding of-states bound thirty lasting empty
+binds-in-every-profile = refl

@@ -3,12 +3,14 @@
 use Prim.Native.Nat.{ℕ, _<_}
 use mathlib.Core.Path.{_≡_, refl, _∙_}
 use mathlib.Core.Bool.{true, false}
+use mathlib.Core.Logic.{⊎-elim}
 use native.Mathlib.Omega.{arith}
 use lib.Dec.{eqb}
 use borrow.Author.Tests.{eqb-true, eqb-false}
 use Rattle.rules.specs.Refusals.{firstOf, FirstHolds, NoneHolds}
-use Rattle.rules.proofs.Cases.{on-cond, clash}
+use Rattle.rules.proofs.Cases.{on-cond, clash, both}
 use Rattle.rules.proofs.Refusals.{Numbered, first-of, of-first, first-numbered, of-none}
+use Rattle.model.specs.declared.Offer.{Offer}
 use Rattle.model.specs.declared.Answer.the-variants.{Refused}
 use Rattle.model.specs.Calls.{isRefused, Call, words, count, offer, poll}
 use Rattle.model.specs.Effects.{Result, result, maySend, refreshed, polled, effect}
@@ -74,3 +76,18 @@ on-call P v c f g =
     on-cond P (eqb (firstOf (checks v c)) 0)
     (λ e. f (of-none (checks v c) (checks-numbered v c) (eqb-true _ _ e)))
     (λ e. g _)
+
+-- 8 is the number of one row alone, which holds only in the old way
+pub eight-is-old : {h : Holding} (v : Status h) (stamp : ℕ) (o : Offer) → call v (offer stamp o) .answer ≡ Refused 8 → v .oldway ≡ 1
+unfolding checks
+eight-is-old v stamp o e =
+    let rows = refusals-are-exact v (offer stamp o) 8 .0 e in
+    ⊎-elim (λ r. absurd (omega (arith, r .1))) (λ r₉.
+    ⊎-elim (λ r. absurd (omega (arith, r .1))) (λ r₂.
+    ⊎-elim (λ r. absurd (omega (arith, r .1))) (λ r₃.
+    ⊎-elim (λ r. absurd (omega (arith, r .1))) (λ r₅.
+    ⊎-elim (λ r. absurd (omega (arith, r .1))) (λ r₆.
+    ⊎-elim (λ r. absurd (omega (arith, r .1))) (λ r₇.
+    ⊎-elim (λ r. eqb-true (v .oldway) 1 (both (eqb (v .oldway) 1) _ (r .0) .0)) (λ r₈.
+    ⊎-elim (λ r. absurd (omega (arith, r .1))) (λ r. absurd (r .1)) (r₈ .1)) (r₇ .1)) (r₆ .1)) (r₅ .1)) (r₃ .1)) (r₂ .1))
+    (r₉ .1)) rows

@@ -8,12 +8,13 @@ use lib.Dec.{eqb}
 use lib.ListN.{length}
 use Rattle.control.specs.Owed.{spare, leastGap, second, quiet, claimsCeiling}
 use Rattle.model.specs.declared.Packet.{Packet}
+use Rattle.model.specs.declared.Offer.{Offer}
 use Rattle.model.specs.declared.Last.{Last}
 use Rattle.model.specs.declared.Answer.{Answer}
-use Rattle.model.specs.declared.Answer.the-variants.{Ready, Sent}
+use Rattle.model.specs.declared.Answer.the-variants.{Ready, Sent, Refused}
 use Rattle.model.specs.Packets.{Holding}
 use Rattle.model.specs.Fours.{each, howMany}
-use Rattle.model.specs.Calls.{Call, poll, Making, isRefused}
+use Rattle.model.specs.Calls.{Call, offer, poll, Making, isRefused}
 use Rattle.model.specs.State.{Status, View, sound}
 use Rattle.model.specs.Gate.{make, call}
 use Rattle.model.specs.declared.Admission.{Admission}
@@ -132,6 +133,13 @@ OldWayDisplacesNothing =
     → All (λ (d : Departure). NotDisplaced (d .way))
     (journalOf (opened (m .stamp)) (events (make m .view) calls) .departures)
     × (viewAfter (make m .view) calls .counts .displaced ≡ 0)
+
+-- "Number 8 is given only by a gate made in the old way" (document 02, W-205): in the new way no offer of a run
+-- is refused for lack of room
+abbrev pub NewWayHasRoom : Type 0
+NewWayHasRoom =
+    (m : Making) (calls : List Call) → make m .answer ≡ Ready → m .oldway ≡ 0
+    → (stamp : ℕ) (o : Offer) → call (viewAfter (make m .view) calls) (offer stamp o) .answer ≡ Refused 8 → ⊥
 
 -- so every prefix of a run is a run, and the claims hold at every point of it
 abbrev pub RunsAreTheirParts : Type 0

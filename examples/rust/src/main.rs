@@ -100,7 +100,7 @@ fn hear_channel(busy: usize) -> [u64; 16] {
 
 impl Host {
     fn new(log: Sink, mut answers: Sink) -> Result<Host, Fault> {
-        // What the gate has taken it never drops, and the host hears at once of a message that finds no room.
+        // The map's pieces all differ: none that was taken may be displaced, and one that finds no room is told.
         let gate = Recorder::new(1, WhenFull::RefuseNew, START, log)?;
         writeln!(answers, "READY")?;
         Ok(Host {

@@ -14,7 +14,7 @@ use Rattle.gate.specs.declared.Outcome.{Outcome}
 use Rattle.gate.specs.Layout.{soundState, outcome}
 use Rattle.calllog.specs.Buffers.{written}
 use Rattle.calllog.specs.Bursts.{offeredBy, answerByte, offeredAt, offeredTo, answersTo}
-use Rattle.calllog.specs.Bursts.{burstNumber, isTaken, burstState, burstAnswers}
+use Rattle.calllog.specs.Bursts.{burstNumber, isAccepted, burstState, burstAnswers}
 use Rattle.calllog.proofs.Asking.{asks-offer, step-call}
 use Rattle.calllog.proofs.Soundness.{call-keeps}
 use Rattle.calllog.proofs.Bursts.{offered-call, offered-other, offered-unsound, record-told, answers-length}
