@@ -132,8 +132,8 @@ burst-numbers :
 unfolding of-bursts
 burst-numbers = refl
 
--- a fresh gate of profile 2 at stamp 5; an offer at 9, a poll's record, whose stamp 255 is not looked at, an offer at 8 and one of
--- priority 4 at 10
+-- a fresh gate of profile 2 at stamp 5; an offer at 9, a poll's record, whose stamp 255 is not looked at, an offer at 8, and one
+-- of priority 4 at 10
 fresh2 : State
 fresh2 = makeState (record { profile = 2; oldway = 0; stamp = 5 }) .state
 
@@ -147,8 +147,8 @@ four-records =
 first-offer : Call
 first-offer = offer 9 (record { id = 7; priority = 1; ontime = 400; lifetime = 1000 })
 
--- "0 for TAKEN, else the refusal number; a record of another kind gets 10 and does nothing"; "Answer bytes past the last record are
--- not written."
+-- "0 for TAKEN, else the refusal number; a record of another kind gets 10 and does nothing"; "Answer bytes past the last record
+-- are not written."
 burst-answers : burstAnswers fresh2 four-records (77 ∷ 78 ∷ 79 ∷ 80 ∷ 81 ∷ 82 ∷ []) ≡ 0 ∷ 10 ∷ 2 ∷ 5 ∷ 81 ∷ 82 ∷ []
 unfolding of-states of-logs of-bursts fresh2 four-records
 burst-answers = refl

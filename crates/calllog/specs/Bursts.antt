@@ -118,7 +118,8 @@ pub record AsSingleCalls (s : State) (records answers : List ℕ) : Type 0 where
 
 abbrev pub BurstsAreSingleCalls : Type 0
 BurstsAreSingleCalls =
-    (s : State) (records answers : List ℕ) → isAccepted records answers ≡ true → AsSingleCalls s records answers
+    (s : State) (records answers : List ℕ) → isAccepted records answers ≡ true
+    → AsSingleCalls s records answers
 
 -- what a host does: a single call, or a burst with the bytes that it lends for the answers
 pub data Move : Type 0 where

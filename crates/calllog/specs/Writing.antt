@@ -58,8 +58,8 @@ blankRecord kind stamp =
     record { kind = kind; priority = 0; ontime = 0; lifetime = 0; id = 0; stamp = stamp }
 
 -- the record of a call: "Kind 0 makes a state (priority field = profile)", "kind 0 with lifetime field 1 asks
--- for the old way, 0 for the new" (W-205); "A sample by words is written by its busy count"; "3 a poll". What no
--- kind asks is never written, and its record is of a kind that asks nothing
+-- for the old way, 0 for the new" (W-205); "A sample by words is written by its busy count"; "3 a poll". What
+-- no kind asks is never written, and its record is of a kind that asks nothing
 unfoldable pub recordOf : Asked → Record
 recordOf (makes m) =
     record { kind = 0; priority = m .profile; ontime = 0; lifetime = m .oldway; id = 0; stamp = m .stamp }

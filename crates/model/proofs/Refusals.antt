@@ -78,7 +78,8 @@ on-call P v c f g =
     (λ e. g _)
 
 -- 8 is the number of one row alone, which holds only in the old way
-pub eight-is-old : {h : Holding} (v : Status h) (stamp : ℕ) (o : Offer) → call v (offer stamp o) .answer ≡ Refused 8 → v .oldway ≡ 1
+pub eight-is-old : {h : Holding} (v : Status h) (stamp : ℕ) (o : Offer)
+    → call v (offer stamp o) .answer ≡ Refused 8 → v .oldway ≡ 1
 unfolding checks
 eight-is-old v stamp o e =
     let rows = refusals-are-exact v (offer stamp o) 8 .0 e in

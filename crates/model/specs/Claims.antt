@@ -134,8 +134,8 @@ OldWayDisplacesNothing =
     (journalOf (opened (m .stamp)) (events (make m .view) calls) .departures)
     × (viewAfter (make m .view) calls .counts .displaced ≡ 0)
 
--- "Number 8 is given only by a gate made in the old way" (document 02, W-205): in the new way no offer of a run
--- is refused for lack of room
+-- "Number 8 is given only by a gate made in the old way" (document 02, W-205): in the new way no offer of a
+-- run is refused for lack of room
 abbrev pub NewWayHasRoom : Type 0
 NewWayHasRoom =
     (m : Making) (calls : List Call) → make m .answer ≡ Ready → m .oldway ≡ 0

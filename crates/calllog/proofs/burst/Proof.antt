@@ -154,7 +154,8 @@ returns-2 c =
     let z : c .before .before .before .burst-refusal .result ≡ 0 = omega arith in
     let taken = eq-eqb _ _ (sym e ∙ z) in
     let l = c .before .loop in
-    let whole : l .i ≡ length (now (c .before .before .before .before .before .before .before .args .records)) / 16 = omega arith in
+    let records = now (c .before .before .before .before .before .before .before .args .records) in
+    let whole : l .i ≡ length records / 16 = omega arith in
     (sym z ∙ e, (rw taken (rw whole at (l .inv .2)), rw taken (rw whole at (l .inv .3))))
 
 pub burst-spec : {M : Type 1} → statement M
