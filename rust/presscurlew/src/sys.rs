@@ -116,7 +116,7 @@ pub struct Clock {
 }
 
 /// The admissions of the last second, in every profile: younger than 1,000,000 µs, at least 25,000 µs apart, with at
-/// most 30,000 µs of on-time in all. The newest is the last admission while that is so young; then there is none.
+/// most 30,000 µs of on-time in all. The newest is the last admission; once that is older, the ledger is empty.
 #[repr(C)]
 #[derive(Clone, Copy, Debug, PartialEq, Eq, Hash)]
 pub struct Ledger {
