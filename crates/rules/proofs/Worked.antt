@@ -272,8 +272,8 @@ unfolding loadOf
 loads = refl
 
 loads-of-probes :
-    loadOf 0 1 ∷ loadOf 1 1 ∷ loadOf 1 12500 ∷ loadOf 7750 12500 ∷ loadOf 7751 12500 ∷ loadOf 12500 12500 ∷ loadOf 1 3 ∷ loadOf 2 3
-    ∷ []
+    loadOf 0 1 ∷ loadOf 1 1 ∷ loadOf 1 12500 ∷ loadOf 7750 12500 ∷ loadOf 7751 12500 ∷ loadOf 12500 12500 ∷ loadOf 1 3
+    ∷ loadOf 2 3 ∷ []
     ≡ 0 ∷ 1000000 ∷ 80 ∷ 620000 ∷ 620080 ∷ 1000000 ∷ 333333 ∷ 666666 ∷ []
 unfolding loadOf
 loads-of-probes = refl
