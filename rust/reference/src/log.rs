@@ -4,6 +4,7 @@ use std::io::{self, ErrorKind, Read, Write};
 
 use crate::calls::BAD_KIND;
 use crate::gate::{self, Answer, Call};
+use crate::rules;
 use crate::state::State;
 
 /// The bytes of a record.
@@ -18,7 +19,8 @@ pub struct Record {
     pub priority: u8,
     /// The on-time.
     pub ontime: u16,
-    /// The lifetime; of a make the old way, 1 for yes and 0 for no.
+    /// The lifetime; of a make the old way, 1 for yes and 0 for no; of a sample
+    /// the probe count, where 0 means 1,000.
     pub lifetime: u32,
     /// The identifier; of a sample the busy count.
     pub id: u32,
@@ -88,7 +90,11 @@ pub fn read(record: &Record) -> Result<LogCall, u32> {
             oldway: lifetime,
             stamp,
         }),
-        1 => Ok(LogCall::On(Call::SampleCount { busy: id, stamp })),
+        1 => Ok(LogCall::On(Call::SampleCount {
+            busy: id,
+            probes: probes_of(lifetime),
+            stamp,
+        })),
         2 => Ok(LogCall::On(Call::Offer {
             id,
             priority,
@@ -98,6 +104,14 @@ pub fn read(record: &Record) -> Result<LogCall, u32> {
         })),
         3 => Ok(LogCall::On(Call::Poll { stamp })),
         _ => Err(BAD_KIND),
+    }
+}
+
+/// W-208: the probe count that a sample's lifetime field tells.
+fn probes_of(lifetime: u32) -> u32 {
+    match lifetime {
+        0 => rules::PROBES,
+        told => told,
     }
 }
 
