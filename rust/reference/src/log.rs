@@ -55,6 +55,14 @@ impl Record {
         bytes[12..16].copy_from_slice(&self.stamp.to_le_bytes());
         bytes
     }
+
+    /// W-208: the probe count that a sample's lifetime field tells.
+    pub fn probes(&self) -> u32 {
+        match self.lifetime {
+            0 => rules::PROBES,
+            told => told,
+        }
+    }
 }
 
 /// What a log can say: a make, or a call on the state.
@@ -92,7 +100,7 @@ pub fn read(record: &Record) -> Result<LogCall, u32> {
         }),
         1 => Ok(LogCall::On(Call::SampleCount {
             busy: id,
-            probes: probes_of(lifetime),
+            probes: record.probes(),
             stamp,
         })),
         2 => Ok(LogCall::On(Call::Offer {
@@ -104,14 +112,6 @@ pub fn read(record: &Record) -> Result<LogCall, u32> {
         })),
         3 => Ok(LogCall::On(Call::Poll { stamp })),
         _ => Err(BAD_KIND),
-    }
-}
-
-/// W-208: the probe count that a sample's lifetime field tells.
-fn probes_of(lifetime: u32) -> u32 {
-    match lifetime {
-        0 => rules::PROBES,
-        told => told,
     }
 }
 
