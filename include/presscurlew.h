@@ -16,6 +16,7 @@
  * Units
  *   time      microseconds (us)
  *   stamp     the radio's own 32-bit count of microseconds, which starts anywhere and wraps
+ *   probes    looks at the channel in one sample              1 to 12,500
  *   load      channel busy ratio, parts per 1,000,000         0 to 1,000,000
  *   duty      share of time on air, parts per 1,000,000,000   600,000 to 30,000,000
  *   level     0 Relaxed, 1 Active 1, 2 Active 2, 3 Active 3, 4 Restrictive
@@ -48,7 +49,7 @@ enum presscurlew_refusal {
     PRESSCURLEW_BAD_PROFILE = 1,  /* make: the profile is not 1 to 3, or when_full is above 1 */
     PRESSCURLEW_CLOCK_BACK = 2,   /* from the last stamp to this one, modulo 2^32, are 2,147,483,648 us or more */
     PRESSCURLEW_CLOCK_END = 3,    /* the running time would pass 10^15 us, some 31 years */
-    PRESSCURLEW_BAD_SAMPLE = 4,   /* not 16 words, or a bit above bit 39 set in the last, or a busy count above 1,000 */
+    PRESSCURLEW_BAD_SAMPLE = 4,   /* not 1 to 12,500 probes, not just enough words, a stray bit, or busy above probes */
     PRESSCURLEW_BAD_PRIORITY = 5, /* the priority is above 3 */
     PRESSCURLEW_BAD_ON_TIME = 6,  /* the profile does not allow this on-time */
     PRESSCURLEW_BAD_LIFETIME = 7, /* the lifetime is 0 or above 60,000,000 */
@@ -216,27 +217,43 @@ typedef struct presscurlew_turn {
 presscurlew_turn presscurlew_make(uint32_t profile, uint32_t when_full, uint32_t stamp);
 
 /*
- * A sample of the channel: 1,000 probes in 16 words. Probe k is bit k mod 64 of word k / 64, and is 1 where
- * the channel was busy; the bits above bit 39 of the last word are 0. TAKEN. `words` points to `count` words,
- * which are only read; with count 0 it may be NULL.
+ * A sample has so many probes at most, and so many words; fewer probes have just as many words as they need. That is
+ * the size of an array, too: uint64_t words[PRESSCURLEW_WORDS(1000)].
+ */
+enum { PRESSCURLEW_MOST_PROBES = 12500, PRESSCURLEW_MOST_WORDS = 196 };
+#define PRESSCURLEW_WORDS(probes) (((probes) + 63) / 64)
+
+/*
+ * A sample of the channel: 1 to 12,500 probes, 64 in a word. Probe k is bit k mod 64 of word k / 64, and is 1 where the
+ * channel was busy; the bits of the last word that are no probes are 0. TAKEN. `words` points to `count` words, which
+ * are only read; with count 0 it may be NULL.
  *
- * Load is 1,000 for each busy probe. Profiles 1 and 2 move the level by at most one towards the one that the
- * load wants. Profile 3 keeps each odd sample, and with each even one updates smoothed load and duty. A
- * sample expires nothing and counts nothing. It drops aged admissions from the ledger, as every call does that is
- * not refused.
+ *   load = floor(1,000,000 x busy / probes)
  *
- *   uint64_t words[16] = {0};
- *   for (unsigned k = 0; k < 1000; k++)
+ * With 1,000 probes that is 1,000 for each busy one; with 12,500, a probe each 8 us for 100 ms, 80. The number of probes
+ * may differ from sample to sample, and nothing but the load is made of it. Profiles 1 and 2 move the level by at most
+ * one towards the one that the load wants. Profile 3 keeps each odd sample, and with each even one updates smoothed
+ * load and duty. A sample expires nothing and counts nothing. It drops aged admissions from the ledger, as every call
+ * does that is not refused.
+ *
+ *   uint64_t words[PRESSCURLEW_WORDS(12500)] = {0};
+ *   for (unsigned k = 0; k < 12500; k++)
  *       if (channel_was_busy(k))
  *           words[k / 64] |= UINT64_C(1) << k % 64;
- *   turn = presscurlew_sample_words(state, words, 16, radio_clock());
+ *   turn = presscurlew_sample_words(state, 12500, words, PRESSCURLEW_WORDS(12500), radio_clock());
  *
- * Refusals: NO_STATE, CLOCK_BACK, CLOCK_END, BAD_SAMPLE.
+ * Refusals: NO_STATE, CLOCK_BACK, CLOCK_END; BAD_SAMPLE if `probes` is not 1 to 12,500, `count` is not that number of
+ * probes over 64, rounded up, or a bit of the last word is 1 that is no probe. Where 64 divides the probes all bits are
+ * probes.
  */
-presscurlew_turn presscurlew_sample_words(presscurlew_state state, const uint64_t *words, size_t count, uint32_t stamp);
+presscurlew_turn presscurlew_sample_words(presscurlew_state state, uint32_t probes, const uint64_t *words, size_t count,
+                                          uint32_t stamp);
 
-/* The same, where the radio has counted the busy probes: `busy` of 1,000. */
-presscurlew_turn presscurlew_sample_count(presscurlew_state state, uint32_t busy, uint32_t stamp);
+/*
+ * The same, where the radio has counted the busy probes: `busy` of `probes`. BAD_SAMPLE if `probes` is not 1 to 12,500,
+ * or `busy` is above it.
+ */
+presscurlew_turn presscurlew_sample_count(presscurlew_state state, uint32_t busy, uint32_t probes, uint32_t stamp);
 
 /*
  * A packet to send. The clock moves, every expired packet of all queues is removed and counted, and the packet
@@ -364,9 +381,12 @@ presscurlew_turn presscurlew_poll(presscurlew_state state, uint32_t stamp);
  *
  *   byte      0     1         2 and 3   4 to 7     8 to 11     12 to 15
  *   make      0     profile   0         when_full  0           stamp
- *   sample    1     0         0         0          busy        stamp
+ *   sample    1     0         0         probes     busy        stamp
  *   offer     2     priority  on-time   lifetime   identifier  stamp
  *   poll      3     0         0         0          0           stamp
+ *
+ * Of 1,000 probes the record says 0, and a record that says 0 is played as one of 1,000, as in logs of hosts that know
+ * no other number. (One that says 1,000 is played alike, but no call here writes it.)
  *
  * Record first, then call, so that the log of a crash has the last call in it:
  *
@@ -383,20 +403,22 @@ presscurlew_turn presscurlew_poll(presscurlew_state state, uint32_t stamp);
  * that is not refused as a whole.
  *
  * A log starts with a make, and has all calls on that one state in their order. A sample by words is in it by its
- * busy count, which is all that the gate looks at: played, it is answered alike, and so is all that comes after it.
- * So the host may take the count from the record, and make the sample by it; the words are then counted once.
+ * busy count and its probe count, which are all that the gate looks at: played, it is answered alike, and so is all
+ * that comes after it. So the host may take the busy count from the record, and make the sample by it; the words are
+ * then counted once.
  *
  * A refusal writes nothing. It comes where a number does not fit its bytes, whatever the gate would make of it:
- * profile 77, priority 200 or a busy count of 5,000 are written, and played they are refused as they were. The first
- * of these that holds is the answer:
+ * profile 77, priority 200, 5,000 busy of 1,000 probes or any of 20,000 are written, and played they are refused as
+ * they were. The first of these that holds is the answer:
  *   PRESSCURLEW_BAD_PROFILE    make: the profile is above 255, or when_full is above 1
- *   PRESSCURLEW_BAD_SAMPLE     sample by words: not 16 words, or a bit above bit 39 set in the last
+ *   PRESSCURLEW_BAD_SAMPLE     sample by words: one that presscurlew_sample_words refuses; by count: 0 probes, as
+ *                              the 0 of a record means 1,000
  *   PRESSCURLEW_BAD_PRIORITY   offer: the priority is above 255
  *   PRESSCURLEW_BAD_ON_TIME    offer: the on-time is above 65,535
  *   PRESSCURLEW_NO_ROOM        any: there are no 16 bytes at `at`, however large it is
  * All but the last are calls that the gate refuses too, in any state, so that a log without them still leads from
  * state to state as the host went. A host that wants a record for each call writes, in place of such a one, one that
- * the gate refuses with the same number: profile 255, a busy count of 4,294,967,295, or presscurlew_put_offer.
+ * the gate refuses with the same number: profile 255, 4,294,967,295 busy of 1,000 probes, or presscurlew_put_offer.
  *
  * What the caller answers for: `log` points to `bytes` bytes, of which none is a byte of the words. With 0 bytes it
  * may be NULL.
@@ -406,12 +428,13 @@ presscurlew_turn presscurlew_poll(presscurlew_state state, uint32_t stamp);
 uint32_t presscurlew_write_make(uint32_t profile, uint32_t when_full, uint32_t stamp, uint8_t *log, size_t bytes,
                                 size_t at);
 
-/* The record of presscurlew_sample_words: that of its busy count. Refusals: BAD_SAMPLE, NO_ROOM. */
-uint32_t presscurlew_write_sample_words(const uint64_t *words, size_t count, uint32_t stamp, uint8_t *log, size_t bytes,
-                                        size_t at);
+/* The record of presscurlew_sample_words: that of its busy count, of so many probes. Refusals: BAD_SAMPLE, NO_ROOM. */
+uint32_t presscurlew_write_sample_words(uint32_t probes, const uint64_t *words, size_t count, uint32_t stamp,
+                                        uint8_t *log, size_t bytes, size_t at);
 
-/* The record of presscurlew_sample_count. Refusals: NO_ROOM. */
-uint32_t presscurlew_write_sample_count(uint32_t busy, uint32_t stamp, uint8_t *log, size_t bytes, size_t at);
+/* The record of presscurlew_sample_count. Refusals: BAD_SAMPLE, NO_ROOM. */
+uint32_t presscurlew_write_sample_count(uint32_t busy, uint32_t probes, uint32_t stamp, uint8_t *log, size_t bytes,
+                                        size_t at);
 
 /* The record of presscurlew_offer. Refusals: BAD_PRIORITY, BAD_ON_TIME, NO_ROOM. */
 uint32_t presscurlew_write_offer(uint32_t id, uint32_t priority, uint32_t ontime, uint32_t lifetime, uint32_t stamp,

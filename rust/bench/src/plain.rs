@@ -78,6 +78,19 @@ const END: u64 = 1_000_000_000_000_000;
 const MOST_OFFERS: u64 = 1_000_000_000_000_000;
 const SECOND: u64 = 1_000_000;
 const MOST_AIR: u32 = 30_000;
+const MOST_PROBES: u32 = 12_500;
+
+/// The busy probes of a sample by words, unless it is none.
+pub fn busy_of(probes: u32, words: &[u64]) -> Option<u32> {
+    if probes > MOST_PROBES || words.len() != probes.div_ceil(64) as usize {
+        return None;
+    }
+    let last = words.last()?;
+    if probes % 64 != 0 && last >> (probes % 64) != 0 {
+        return None;
+    }
+    Some(words.iter().map(|word| word.count_ones()).sum())
+}
 
 fn most_ontime(profile: u32) -> u32 {
     match profile {
@@ -338,17 +351,25 @@ impl State {
     }
 
     /// (b) A sample by its busy count, in place.
-    pub fn sample(&mut self, busy: u32, stamp: u32) -> Answer {
+    pub fn sample(&mut self, busy: u32, probes: u32, stamp: u32) -> Answer {
         let now = match self.time_at(stamp) {
             Ok(now) => now,
             Err(refused) => return refused,
         };
-        if busy > 1000 {
+        if probes == 0 || probes > MOST_PROBES || busy > probes {
             return Answer::Refused(4);
         }
         self.move_to(now, stamp);
-        self.take_load(1000 * busy);
+        self.take_load((1_000_000 * busy as u64 / probes as u64) as u32);
         Answer::Taken
+    }
+
+    /// (b) A sample by words, in place. Words that are no sample are refused as 1 busy of 0 probes is.
+    pub fn sample_words(&mut self, probes: u32, words: &[u64], stamp: u32) -> Answer {
+        match busy_of(probes, words) {
+            Some(busy) => self.sample(busy, probes, stamp),
+            None => self.sample(1, 0, stamp),
+        }
     }
 
     /// (b) An offer, in place.
@@ -423,11 +444,20 @@ pub mod by_value {
     use super::{Answer, State};
 
     #[inline(never)]
-    pub fn sample(mut s: State, busy: u32, stamp: u32) -> (State, Answer) {
+    pub fn sample(mut s: State, busy: u32, probes: u32, stamp: u32) -> (State, Answer) {
         if !s.is_sound() {
             return (s, Answer::Refused(9));
         }
-        let answer = s.sample(busy, stamp);
+        let answer = s.sample(busy, probes, stamp);
+        (s, answer)
+    }
+
+    #[inline(never)]
+    pub fn sample_words(mut s: State, probes: u32, words: &[u64], stamp: u32) -> (State, Answer) {
+        if !s.is_sound() {
+            return (s, Answer::Refused(9));
+        }
+        let answer = s.sample_words(probes, words, stamp);
         (s, answer)
     }
 

@@ -35,6 +35,7 @@ Reads standard input without IN.txt, writes to standard output without -o. One c
   make PROFILE at STAMP                      a full queue drops its oldest for the new one
   make PROFILE keep-oldest at STAMP          a full queue keeps them, and refuses the new one with 8
   sample BUSY at STAMP                       BUSY of 1,000 probes were busy
+  sample BUSY of PROBES at STAMP             BUSY of so many probes
   offer ID priority P ontime T lifetime T at STAMP
   poll at STAMP
   raw B B B ..                               any record: 16 bytes, 00 to ff
@@ -87,7 +88,7 @@ calls and the answers alone, and says of each run:
              a packet is displaced only by the fifth or a later offer of its priority after it
   Delivery   one of priority 0 with k before it and polls at most p apart goes in time:
              no later than (k + 1) x (floor + p) after it came, if it lives longer than that
-             and is not displaced
+             and is not displaced; where no packet did, it is not promised
   Answers    each is what the second program answers
 
 with the nearest that the run came to its limit. ANSWERS must fit the log: a line a record,
@@ -99,8 +100,8 @@ curlew plot [--run N] [--from T] [--to T] LOG [ANSWERS] -o OUT.svg: a picture of
 
 Over the run's time: the channel load, the level or duty, what waits in each queue, what was
 sent, what expired and what was displaced, the time since the last admission beside the floor,
-and the air time in a sliding second beside the ceiling. LOG and ANSWERS are read twice, so they
-can't be -.
+and the on-time admitted in the last second beside its limit of 30 ms. LOG and ANSWERS are read
+twice, so they can't be -.
 
   --run N      the Nth run of the log (the first)
   --from T     a part of the run: from this time on, in µs or with a unit, as 500ms or 12s

@@ -195,18 +195,29 @@ fn turn(run: &Run, lines: &mut Vec<(&'static str, String)>) {
     if let Some(fewest) = run.book.closest().fewest_offers {
         lines.push(("", displaced(run, fewest)));
     }
-    let delivery = match watch.zero_sent + watch.zero_expired + watch.zero_displaced {
-        0 => "KEPT. No packet of priority 0 left.".to_string(),
-        _ => format!(
-            "KEPT. Of priority 0, {} went, {} expired and {} displaced.",
-            grouped(watch.zero_sent),
-            grouped(watch.zero_expired),
-            was_or_were(watch.zero_displaced)
-        ),
-    };
-    lines.push(("Delivery", delivery));
+    lines.push(("Delivery", delivery(run)));
     if let Some(wait) = watch.nearest_wait {
         lines.push(("", nearest(&wait)));
+    }
+}
+
+/// What became of the packets of priority 0, and to which of them delivery was
+/// promised at all: one that does not live as long as its bound, or is
+/// displaced, had no promise.
+fn delivery(run: &Run) -> String {
+    let watch = &run.watch;
+    if watch.zero_sent + watch.zero_expired + watch.zero_displaced == 0 {
+        return "Not promised here: no packet of priority 0 left.".to_string();
+    }
+    let left = format!(
+        "Of priority 0, {} went, {} expired and {} displaced",
+        grouped(watch.zero_sent),
+        grouped(watch.zero_expired),
+        was_or_were(watch.zero_displaced)
+    );
+    match watch.zero_promised {
+        0 => format!("Not promised here: none lived longer than the label's bound. {left}."),
+        promised => format!("KEPT. {left}; {} promised to go.", was_or_were(promised)),
     }
 }
 

@@ -156,8 +156,8 @@ const DISPLACED: f64 = 680.0;
 const LANE: f64 = 32.0;
 const LANE_HEIGHT: f64 = 28.0;
 
-/// The most air time in any second, in ms, and the top of its panel.
-const CEILING_MS: f64 = STRETCH_MOST as f64 / 1e3;
+/// The most on-time admitted in any second, in ms, and the top of its panel.
+const SECOND_MS: f64 = STRETCH_MOST as f64 / 1e3;
 const AIR_MOST: f64 = 33.0;
 
 /// No more dots than this are drawn on the line of the load.
@@ -294,8 +294,8 @@ impl Drawing {
         f64::from(most) / 1e3
     }
 
-    fn sampled(&mut self, busy: u32, smoothed: u32) {
-        let (x, y) = (self.x(self.now), height(LOAD, f64::from(busy), 1_000.0));
+    fn sampled(&mut self, load: u32, smoothed: u32) {
+        let (x, y) = (self.x(self.now), height(LOAD, f64::from(load), 1e6));
         self.load.step(x, y);
         if self.dotted && self.inside() {
             self.dots += &format!(r#"<circle class="dot" cx="{x:.1}" cy="{y:.1}" r="1.9"/>"#);
@@ -463,7 +463,9 @@ impl Hearer for Drawing {
             self.draw_air(0);
         }
         if row.record.kind == 1 {
-            self.sampled(row.record.id, row.state.smoothed);
+            // A sample that was taken has a load.
+            let load = rules::load_of_count(row.record.id, row.record.probes());
+            self.sampled(load.unwrap_or(0), row.state.smoothed);
         }
         self.controlled(row.state.level, row.state.duty);
         let waited = self.lengths.iter().any(|length| *length > 0);
@@ -521,7 +523,7 @@ impl Drawing {
         self.air_panel(&mut svg);
         let description = format!(
             "{}. From top to bottom, over the run's time: channel load, level or duty, packets waiting, packets sent, \
-             expired and displaced, time since the last admission beside the floor, air time in a sliding second beside the ceiling.",
+             expired and displaced, time since the last admission beside the floor, on-time admitted in the last second beside its limit.",
             found.facts
         );
         svg.whole(title, &description, STYLE)
@@ -668,14 +670,14 @@ impl Drawing {
     }
 
     fn air_panel(&mut self, svg: &mut Svg) {
-        heading(svg, AIR, "Air time in the second before (ms)");
+        heading(svg, AIR, "On-time admitted in the last second (ms)");
         scale(svg, AIR, AIR_MOST, &[0.0, 10.0, 20.0, 30.0], 0);
-        let y = height(AIR, CEILING_MS, AIR_MOST);
+        let y = height(AIR, SECOND_MS, AIR_MOST);
         svg.line((LEFT, y), (RIGHT, y), "limit");
         limit_name(
             svg,
             AIR,
-            "ceiling, guaranteed: never above 30 ms in any second",
+            "limit, guaranteed: at most 30 ms are admitted in any second",
         );
         self.slide(self.to);
         self.air.level(RIGHT);

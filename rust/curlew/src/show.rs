@@ -211,7 +211,10 @@ fn call(record: &Record) -> String {
             let way = plain::way(*lifetime);
             format!("make, profile {priority}{way}, stamp {}", grouped(*stamp))
         }
-        1 => format!("sample, {} of 1,000 busy", grouped(*id)),
+        1 => {
+            let probes = grouped(record.probes());
+            format!("sample, {} of {probes} busy", grouped(*id))
+        }
         2 => {
             let lifetime = span(u64::from(*lifetime));
             format!("offer {id}: priority {priority}, {ontime} µs, lives {lifetime}")

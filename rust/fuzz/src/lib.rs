@@ -9,8 +9,8 @@ mod help;
 
 use help::{
     archive_write, hold, hold_burst, hold_no_state, hold_no_state_burst, hold_write, raw, Call,
-    LogCall, ACCEPTED_MOST, EDGE_COUNTS, EDGE_LIFETIMES, EDGE_ONTIMES, EDGE_PRIORITIES, EDGE_STEPS,
-    TIME_END,
+    LogCall, ACCEPTED_MOST, EDGE_COUNTS, EDGE_LIFETIMES, EDGE_ONTIMES, EDGE_PRIORITIES,
+    EDGE_PROBES, EDGE_STEPS, TIME_END,
 };
 use reference::log::{read, Record, RECORD_BYTES};
 use reference::state::{sound, Admission, Packet, State};
@@ -156,10 +156,17 @@ impl Input<'_> {
         }
     }
 
-    fn words(&mut self) -> Vec<u64> {
-        let length = self.of(&[16, 15, 17, 0]) % 64;
+    /// A probe count, with words: mostly just enough. The last are zeros where the input is used up.
+    fn words(&mut self) -> (u32, Vec<u64>) {
+        let probes = self.of(&EDGE_PROBES);
+        let enough = probes.div_ceil(64).min(200);
+        let length = match self.byte() {
+            byte @ 224.. => u32::from(byte - 224),
+            0 => enough + 1,
+            _ => enough,
+        };
         let word = |_| u64::from(self.number()) << (self.byte() % 64);
-        (0..length).map(word).collect()
+        (probes, (0..length).map(word).collect())
     }
 
     fn stamp_after(&mut self, last: u32) -> u32 {
@@ -206,12 +213,17 @@ impl Input<'_> {
     fn call(&mut self, last: u32) -> Call {
         let stamp = self.stamp_after(last);
         match self.byte() % 4 {
-            0 => Call::SampleWords {
-                words: self.words(),
-                stamp,
-            },
+            0 => {
+                let (probes, words) = self.words();
+                Call::SampleWords {
+                    probes,
+                    words,
+                    stamp,
+                }
+            }
             1 => Call::SampleCount {
                 busy: self.of(&EDGE_COUNTS),
+                probes: self.of(&EDGE_PROBES),
                 stamp,
             },
             2 => Call::Offer {

@@ -21,14 +21,14 @@ pub fn make(profile: u32, oldway: u32, stamp: u32) -> (State, Answer) {
     }
 }
 
-/// A sample by words.
-pub fn sample_words(state: State, words: &[u64], stamp: u32) -> (State, Answer) {
-    sample(state, rules::load_of_words(words), stamp)
+/// A sample of so many probes, by words.
+pub fn sample_words(state: State, probes: u32, words: &[u64], stamp: u32) -> (State, Answer) {
+    sample(state, rules::load_of_words(probes, words), stamp)
 }
 
-/// A sample by busy count.
-pub fn sample_count(state: State, busy: u32, stamp: u32) -> (State, Answer) {
-    sample(state, rules::load_of_count(busy), stamp)
+/// A sample by busy count, of so many probes.
+pub fn sample_count(state: State, busy: u32, probes: u32, stamp: u32) -> (State, Answer) {
+    sample(state, rules::load_of_count(busy, probes), stamp)
 }
 
 /// An offer of one packet: 9, 2, 3, 5, 6, 7, 8, 11, else it joins its queue,
@@ -85,8 +85,16 @@ pub fn poll(state: State, stamp: u32) -> (State, Answer) {
 /// Any call on the state.
 pub fn call(state: State, call: &Call) -> (State, Answer) {
     match *call {
-        Call::SampleWords { ref words, stamp } => sample_words(state, words, stamp),
-        Call::SampleCount { busy, stamp } => sample_count(state, busy, stamp),
+        Call::SampleWords {
+            probes,
+            ref words,
+            stamp,
+        } => sample_words(state, probes, words, stamp),
+        Call::SampleCount {
+            busy,
+            probes,
+            stamp,
+        } => sample_count(state, busy, probes, stamp),
         Call::Offer {
             id,
             priority,

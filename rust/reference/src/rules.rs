@@ -93,12 +93,11 @@ pub const DUTY_MOST: u32 = 30_000_000;
 pub const LOAD_MOST: u32 = 1_000_000;
 /// The highest level, Restrictive.
 pub const LEVEL_MOST: u32 = 4;
-/// The number of probes in a sample ("Samples").
+/// The number of probes that a sample had before W-208, and has in a log that
+/// does not tell it.
 pub const PROBES: u32 = 1_000;
-/// The number of words in a sample ("Samples").
-pub const SAMPLE_WORDS: usize = 16;
-/// The number of low bits that the last word of a sample uses: 0 to 39.
-pub const LAST_WORD_BITS: u32 = 40;
+/// W-208: the most probes in a sample. The fewest is 1.
+pub const PROBES_MOST: u32 = 12_500;
 /// The running time at which the clock ends: 10^15 µs, still good itself.
 pub const TIME_END: u64 = 1_000_000_000_000_000;
 /// The most offers that a state accepts (W-201): 10^15, still good itself.
@@ -348,29 +347,50 @@ pub fn busy_count(words: &[u64]) -> u64 {
     busy
 }
 
-/// "Refusal numbers", 4: 16 words, no bit above bit 39 set in the last.
-pub fn words_good(words: &[u64]) -> bool {
-    words.len() == SAMPLE_WORDS && words[SAMPLE_WORDS - 1] >> LAST_WORD_BITS == 0
+/// W-208: a sample has 1 to 12,500 probes.
+pub fn probes_good(probes: u32) -> bool {
+    (1..=PROBES_MOST).contains(&probes)
 }
 
-/// "Refusal numbers", 4: a busy count of at most 1,000.
-pub fn count_good(busy: u32) -> bool {
-    busy <= PROBES
+/// W-208: "just enough words" for so many probes.
+pub fn words_needed(probes: u32) -> usize {
+    let whole = probes as usize / 64;
+    if probes % 64 == 0 {
+        whole
+    } else {
+        whole + 1
+    }
 }
 
-/// "Samples": load is 1,000 times the busy count. A bad count has no load.
-pub fn load_of_count(busy: u32) -> Option<u32> {
-    if count_good(busy) {
-        Some(1_000 * busy)
+/// "Refusal numbers", 4, by words: a good probe count, just enough words, and
+/// no bit set past the last probe.
+pub fn words_good(probes: u32, words: &[u64]) -> bool {
+    if !probes_good(probes) || words.len() != words_needed(probes) {
+        return false;
+    }
+    let mut stray = probes as usize..64 * words.len();
+    stray.all(|k| probe_busy(words, k) == Some(false))
+}
+
+/// "Refusal numbers", 4, by count: a good probe count, and no more busy.
+pub fn count_good(busy: u32, probes: u32) -> bool {
+    probes_good(probes) && busy <= probes
+}
+
+/// W-208: load = floor(1,000,000 × busy / probes). A bad sample has no load.
+pub fn load_of_count(busy: u32, probes: u32) -> Option<u32> {
+    if count_good(busy, probes) {
+        let load = u64::from(LOAD_MOST) * u64::from(busy) / u64::from(probes);
+        Some(load as u32) // at most 1,000,000
     } else {
         None
     }
 }
 
-/// "Samples": the load of a sample by words. A bad sample has no load.
-pub fn load_of_words(words: &[u64]) -> Option<u32> {
-    if words_good(words) {
-        load_of_count(busy_count(words) as u32) // at most 1,000 bits
+/// W-208: the load of a sample by words. A bad sample has no load.
+pub fn load_of_words(probes: u32, words: &[u64]) -> Option<u32> {
+    if words_good(probes, words) {
+        load_of_count(busy_count(words) as u32, probes) // at most 12,500 bits
     } else {
         None
     }

@@ -92,7 +92,7 @@ fn by_c_calls(start: Start, row: &[Call]) -> Tally {
     let mut sent = 0;
     for &[kind, a, b, c, d, stamp] in row {
         let turn = match kind {
-            1 => sys::presscurlew_sample_count(now, a, stamp),
+            1 => sys::presscurlew_sample_count(now, a, b, stamp),
             2 => sys::presscurlew_offer(now, a, b, c, d, stamp),
             _ => sys::presscurlew_poll(now, stamp),
         };
@@ -115,7 +115,7 @@ fn valued(start: Start, row: &[Call]) -> Tally {
     let (mut state, mut sent) = (start.plain, 0);
     for &[kind, a, b, c, d, stamp] in row {
         let (next, answer) = match kind {
-            1 => by_value::sample(state, a, stamp),
+            1 => by_value::sample(state, a, b, stamp),
             2 => by_value::offer(state, [a, b, c, d], stamp),
             _ => by_value::poll(state, stamp),
         };
@@ -129,7 +129,7 @@ fn in_place(start: Start, row: &[Call]) -> Tally {
     let (mut state, mut sent) = (start.plain, 0);
     for &[kind, a, b, c, d, stamp] in row {
         let answer = match kind {
-            1 => state.sample(a, stamp),
+            1 => state.sample(a, b, stamp),
             2 => state.offer([a, b, c, d], stamp),
             _ => state.poll(stamp),
         };
@@ -239,7 +239,7 @@ fn sending(i: u32) -> [u32; 5] {
 fn sampled(i: u32) -> [u32; 5] {
     match i % 3 {
         0 => offered(i, 1_000_000),
-        1 => [1, i % 1001, 0, 0, 0],
+        1 => [1, i % 1001, 1_000, 0, 0],
         _ => POLL,
     }
 }
@@ -257,7 +257,7 @@ fn at_the_ceiling(i: u32) -> [u32; 5] {
 fn start(mix: &Mix, profile: u32) -> Start {
     let mut archive = sys::presscurlew_make(profile, mix.when_full, 0).state;
     for _ in 0..mix.quiet {
-        archive = sys::presscurlew_sample_count(archive, 0, 0).state;
+        archive = sys::presscurlew_sample_count(archive, 0, 1_000, 0).state;
     }
     let plain = state(archive);
     Start { archive, plain }

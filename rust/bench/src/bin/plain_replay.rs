@@ -54,7 +54,13 @@ fn record(state: &mut State, bytes: &[u8], out: &mut Vec<u8>) {
         }
         4.. => Answer::Refused(10),
         _ if !state.is_sound() => Answer::Refused(9),
-        1 => state.sample(word(bytes, 8), stamp),
+        1 => {
+            let probes = match word(bytes, 4) {
+                0 => 1_000,
+                told => told,
+            };
+            state.sample(word(bytes, 8), probes, stamp)
+        }
         2 => {
             let ontime = u16::from_le_bytes([bytes[2], bytes[3]]) as u32;
             let numbers = [word(bytes, 8), bytes[1] as u32, ontime, word(bytes, 4)];

@@ -28,7 +28,7 @@ fn the_sample_is_kept() {
         "Run 1: profile 2, 0.050200 s, records 1 to 8",
         "accepted: 0 samples, 2 offers, 4 polls; refused: 1 CLOCK-BACK",
         "Counts     KEPT. 2 accepted = 1 sent + 0 expired + 0 displaced + 1 waiting at the end. They add up",
-        "Delivery   KEPT. No packet of priority 0 left.",
+        "Delivery   Not promised here: no packet of priority 0 left.",
         "Ceiling    KEPT. Closest call: one packet at 0.000200 s, with 400 µs of the 4,000 µs allowed.",
         "Second     KEPT. Closest call: one packet at 0.000200 s, with 400 µs of the 30 ms allowed in any second.",
         "KEPT. Latest CLOSED: 50 ms after an admission; from 1.0005 s on a poll sends.",
@@ -303,7 +303,7 @@ fn displaced_packets_are_counted() {
         "Run 1: profile 1, 0.656400 s, records 1 to 17",
         "9 accepted = 6 sent + 1 expired + 2 displaced + 0 waiting at the end.",
         "2 packets displaced, none before 5 more of its own priority were taken.",
-        "Of priority 0, 5 went, 1 expired and 2 were displaced.",
+        "Delivery   KEPT. Of priority 0, 5 went, 1 expired and 2 were displaced; 5 were promised to go.",
     ] {
         assert!(text.contains(words), "no '{words}' in: {text}");
     }
@@ -317,7 +317,7 @@ fn displaced_packets_are_counted() {
         "Run 1: profile 1 keep-oldest, 0.656400 s, records 1 to 17",
         "refused: 2 QUEUE-FULL",
         "7 accepted = 6 sent + 1 expired + 0 displaced + 0 waiting at the end.",
-        "Of priority 0, 5 went, 1 expired and 0 were displaced.",
+        "Delivery   KEPT. Of priority 0, 5 went, 1 expired and 0 were displaced; 5 were promised to go.",
     ] {
         assert!(text.contains(words), "no '{words}' in: {text}");
     }
@@ -331,6 +331,52 @@ fn displaced_packets_are_counted() {
     );
     curlew(&["check", &keeps, &example("drop-oldest", "out")])
         .failed(1, "the answer is TAKEN, the right one is REFUSED 8");
+}
+
+/// A packet that does not live longer than its bound, here 1.001 s, was promised nothing: whether it went or not, KEPT
+/// is not said of it.
+#[test]
+fn delivery_is_kept_only_where_it_was_promised() {
+    let text = |lifetime: u32| {
+        format!(
+            "make 1 at 0\n\
+             offer 1 priority 0 ontime 9 lifetime {lifetime} at +0\npoll at +0\n\
+             offer 2 priority 0 ontime 9 lifetime 5 at +0\npoll at +5\n"
+        )
+    };
+    for (lifetime, words) in [
+        (
+            1_001_000,
+            "Delivery   Not promised here: none lived longer than the label's bound. \
+             Of priority 0, 1 went, 1 expired and 0 were displaced.",
+        ),
+        (
+            1_001_001,
+            "Delivery   KEPT. Of priority 0, 1 went, 1 expired and 0 were displaced; 1 was promised to go.",
+        ),
+    ] {
+        let log = log_of(&text(lifetime));
+        let told = check(&log, &answers(&log)).good().text();
+        assert!(told.contains(words), "no '{words}' in: {told}");
+    }
+}
+
+/// A sample is judged with the probes that it tells.
+#[test]
+fn the_probes_of_a_sample_are_judged() {
+    let text = "make 1 at 0\nsample 12500 of 12500 at +0\nsample 12501 of 12500 at +0\nsample 1001 at +0\n";
+    let log = log_of(text);
+    let out = answers(&log);
+    assert_eq!(out, "READY\nTAKEN\nREFUSED 4\nREFUSED 4\nEND\n");
+    let told = check(&log, &out).good().text();
+    assert!(
+        told.contains("1 sample, 0 offers, 0 polls; refused: 2 BAD-SAMPLE"),
+        "{told}"
+    );
+    check(&log, &out.replacen("REFUSED 4", "TAKEN", 1)).failed(
+        1,
+        "record 3 (sample 12501 of 12500 at 0): the answer is TAKEN, the right one is REFUSED 4",
+    );
 }
 
 /// A gate that displaces the newest of five, or one of another queue, sends what it should not.

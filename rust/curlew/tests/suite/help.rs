@@ -113,13 +113,14 @@ impl Drop for Folder {
 }
 
 /// The names of the example logs.
-pub const EXAMPLES: [&str; 8] = [
+pub const EXAMPLES: [&str; 9] = [
     "sample",
     "quiet-morning",
     "jam",
     "drop-oldest",
     "keep-oldest",
     "any-second",
+    "new-radio",
     "clock-wrap",
     "damaged-tail",
 ];

@@ -3,8 +3,8 @@
 use std::fmt;
 
 use crate::help::{
-    edge_or, hold, random_words, raw, raw_reply, Answer, Call, ACCEPTED_MOST, EDGE_COUNTS,
-    EDGE_LIFETIMES, EDGE_ONTIMES, EDGE_PRIORITIES, EDGE_STEPS, PROFILES, TIME_END, WAYS,
+    hold, random_count, random_words, raw, raw_reply, Answer, Call, ACCEPTED_MOST, EDGE_LIFETIMES,
+    EDGE_ONTIMES, EDGE_PRIORITIES, EDGE_STEPS, PROFILES, TIME_END, WAYS,
 };
 use presscurlew::sys;
 use reference::book::Book;
@@ -133,11 +133,9 @@ impl Caller {
 
     fn sample(&mut self, stamp: u32) -> Call {
         if self.rng.one_in(3) {
-            let words = random_words(&mut self.rng);
-            return Call::SampleWords { words, stamp };
+            return by_words(&mut self.rng, stamp);
         }
-        let busy = edge_or(&mut self.rng, &EDGE_COUNTS, 1_000);
-        Call::SampleCount { busy, stamp }
+        by_count(&mut self.rng, stamp)
     }
 
     fn offer(&mut self, profile: u32, stamp: u32) -> Call {
@@ -155,6 +153,24 @@ impl Caller {
             lifetime: number(&EDGE_LIFETIMES, 1, self.style.lifetime),
             stamp,
         }
+    }
+}
+
+fn by_words(rng: &mut Rng, stamp: u32) -> Call {
+    let (probes, words) = random_words(rng);
+    Call::SampleWords {
+        probes,
+        words,
+        stamp,
+    }
+}
+
+fn by_count(rng: &mut Rng, stamp: u32) -> Call {
+    let (busy, probes) = random_count(rng);
+    Call::SampleCount {
+        busy,
+        probes,
+        stamp,
     }
 }
 
@@ -332,8 +348,13 @@ fn runs_that_reach_the_floor() {
         let mut state = made(profile, sys::DROP_OLDEST, 0);
         let mut asked = vec![];
         if profile != 3 {
-            let (busy, stamp) = (1_000, 0);
-            asked = vec![Call::SampleCount { busy, stamp }; 4];
+            let (busy, probes, stamp) = (12_500, 12_500, 0);
+            let loud = Call::SampleCount {
+                busy,
+                probes,
+                stamp,
+            };
+            asked = vec![loud; 4];
         }
         let (priority, lifetime, stamp) = (0, 60_000_000, 0);
         let ontime = rules::on_time_max(profile).unwrap();
@@ -409,14 +430,8 @@ fn run_to_the_end_of_time() {
 fn end_call(rng: &mut Rng, profile: u32, stamp: u32) -> Call {
     let ontime = rules::on_time_max(profile).unwrap();
     match rng.below(4) {
-        0 => Call::SampleCount {
-            busy: rng.below(1_001) as u32,
-            stamp,
-        },
-        1 => Call::SampleWords {
-            words: random_words(rng),
-            stamp,
-        },
+        0 => by_count(rng, stamp),
+        1 => by_words(rng, stamp),
         2 => Call::Offer {
             id: 1,
             priority: rng.below(4) as u32,

@@ -261,11 +261,19 @@ fn every_accepted_call_drops_what_has_aged() {
         ] {
             let stamp = STAMP.wrapping_add(step);
             let due = dropped(&state, many);
-            let words = first_busy(500);
+            let words = first_busy(1_000, 500);
             let (id, priority, ontime, lifetime) = (1, 0, 1, 9);
             for call in [
-                Call::SampleCount { busy: 500, stamp },
-                Call::SampleWords { words, stamp },
+                Call::SampleCount {
+                    busy: 1,
+                    probes: 2,
+                    stamp,
+                },
+                Call::SampleWords {
+                    probes: 1_000,
+                    words,
+                    stamp,
+                },
                 Call::Offer {
                     id,
                     priority,
@@ -309,8 +317,8 @@ fn a_refused_call_drops_nothing() {
                         refused += 1;
                     }
                 }
-                // A bad sample of each kind, a priority, an on-time and a lifetime.
-                assert_eq!(refused, 5, "{state:?}");
+                // Bad samples by words, by count and of no probes, a priority, an on-time and a lifetime.
+                assert_eq!(refused, 6, "{state:?}");
                 let back = Call::Poll {
                     stamp: state.stamp.wrapping_sub(1 + step),
                 };
@@ -368,6 +376,16 @@ impl Ear {
     }
 }
 
+/// A sample of an idle channel.
+fn quiet(stamp: u32) -> Call {
+    let (busy, probes) = (0, 1_000);
+    Call::SampleCount {
+        busy,
+        probes,
+        stamp,
+    }
+}
+
 /// A run of the archive beside the reference, the ear and, from a fresh state, the book.
 struct Run {
     state: State,
@@ -386,10 +404,7 @@ impl Run {
             origin,
         };
         for _ in 0..500 {
-            run.call(&Call::SampleCount {
-                busy: 0,
-                stamp: STAMP,
-            });
+            run.call(&quiet(STAMP));
         }
         assert_eq!(run.state.duty, HIGHEST_DUTY);
         run
@@ -448,10 +463,7 @@ fn eight_packets_of_4_000() {
     for packet in 0..7 {
         run.offer(packet % 4, 4_000);
         assert!(matches!(run.poll(0), Answer::Sent(_)));
-        run.call(&Call::SampleCount {
-            busy: 0,
-            stamp: run.state.stamp.wrapping_add(133_334),
-        });
+        run.call(&quiet(run.state.stamp.wrapping_add(133_334)));
     }
     run.offer(3, 4_000);
     assert_eq!(run.poll(0), Answer::Closed(66_662));
@@ -468,10 +480,7 @@ fn forty_of_750_for_two_hours() {
         run.offer(packet % 4, 750);
         assert!(matches!(run.poll(0), Answer::Sent(_)));
         assert_eq!(run.state.ledger.len, u64::from(packet + 1).min(40));
-        run.call(&Call::SampleCount {
-            busy: 0,
-            stamp: run.state.stamp.wrapping_add(25_000),
-        });
+        run.call(&quiet(run.state.stamp.wrapping_add(25_000)));
     }
     assert_eq!(run.ear.fullest, 30_000);
     assert!(run.state.time >= 2 * 3_600_000_000);
@@ -488,7 +497,12 @@ fn hours_at_the_edge() {
             if rng.one_in(4) {
                 let stamp = run.state.stamp;
                 let busy = rng.below(600) as u32; // the duty stays high
-                run.call(&Call::SampleCount { busy, stamp });
+                let probes = 1_000;
+                run.call(&Call::SampleCount {
+                    busy,
+                    probes,
+                    stamp,
+                });
             }
             let ontime = rng.pick(&[1, 700, 750, 751, 1_000, 2_000, 3_999, 4_000]);
             run.offer(rng.below(4) as u32, ontime);
@@ -531,7 +545,7 @@ fn from_a_full_ledger_on() {
 #[test]
 fn a_gate_keeps_the_second() {
     let mut gate = Gate::new(3, WhenFull::RefuseNew, 0).unwrap();
-    (0..500).for_each(|_| gate.sample_count(0, 0).unwrap());
+    (0..500).for_each(|_| gate.sample_count(0, 1_000, 0).unwrap());
     let offer = |id| Offer {
         id,
         priority: 0,
@@ -549,7 +563,7 @@ fn a_gate_keeps_the_second() {
         ledger.ontimes[..8],
         [4_000, 4_000, 4_000, 4_000, 4_000, 4_000, 4_000, 0]
     );
-    gate.sample_count(0, 1_000_000).unwrap();
+    gate.sample_count(0, 1_000, 1_000_000).unwrap();
     assert_eq!(
         (gate.state().ledger.len, gate.state().ledger.ats[0]),
         (6, 133_334)

@@ -135,7 +135,11 @@ fn rules_at_the_ends_of_their_types() {
     assert_eq!(rules::wait_adaptive(0, 1), None);
     let end = u64::from(u32::MAX) + 1_000_000;
     assert_eq!(rules::closed_for(1, 4, 0, u32::MAX), Some(end));
-    assert_eq!(rules::load_of_count(u32::MAX), None);
+    for probes in [0, 1, 1_000, 12_500, u32::MAX] {
+        assert_eq!(rules::load_of_count(u32::MAX, probes), None);
+    }
+    assert_eq!(rules::words_needed(u32::MAX), 1 << 26);
+    assert_eq!(rules::words_needed(0), 0);
     assert!(rules::expired(u64::MAX, 0, u32::MAX));
     assert!(!rules::expired(0, u64::MAX, 0));
     assert_eq!(rules::busy_count(&[u64::MAX; 40]), 2_560);

@@ -262,8 +262,8 @@ fn accepted_calls_drop_and_refused_ones_do_not() {
         ] {
             let stamp = state.stamp + step;
             let accepted = [
-                gate::sample_count(state, 500, stamp),
-                gate::sample_words(state, &words(500), stamp),
+                gate::sample_count(state, 500, 1_000, stamp),
+                gate::sample_words(state, 1_000, &words(500), stamp),
                 gate::offer(state, 1, 0, 1, 9, stamp),
             ];
             for (next, answer) in accepted {
@@ -279,8 +279,8 @@ fn accepted_calls_drop_and_refused_ones_do_not() {
                 }
                 _ => assert_eq!(ages(&next), left),
             }
-            assert_refused(state, gate::sample_count(state, 1_001, stamp), 4);
-            assert_refused(state, gate::sample_words(state, &[], stamp), 4);
+            assert_refused(state, gate::sample_count(state, 1_001, 1_000, stamp), 4);
+            assert_refused(state, gate::sample_words(state, 1_000, &[], stamp), 4);
             assert_refused(state, gate::offer(state, 1, 4, 1, 9, stamp), 5);
             assert_refused(state, gate::offer(state, 1, 0, 0, 9, stamp), 6);
             assert_refused(state, gate::offer(state, 1, 0, 1, 0, stamp), 7);

@@ -41,8 +41,12 @@ fn breaks_only(state: &State, rule: &str) {
 fn all_calls_refuse(state: &State) {
     assert!(!sound(state));
     let stamp = state.stamp;
-    assert_refused(*state, gate::sample_words(*state, &[0; 16], stamp), 9);
-    assert_refused(*state, gate::sample_count(*state, 0, stamp), 9);
+    assert_refused(
+        *state,
+        gate::sample_words(*state, 1_000, &[0; 16], stamp),
+        9,
+    );
+    assert_refused(*state, gate::sample_count(*state, 0, 1_000, stamp), 9);
     assert_refused(*state, gate::offer(*state, 1, 0, 1, 1, stamp), 9);
     assert_refused(*state, gate::poll(*state, stamp), 9);
 }
