@@ -1,5 +1,5 @@
--- Worked examples of what documents 01 and 02 say of the four calls from a C stack. Each side computes to the other, so a definition
--- that reads a sentence otherwise fails here.
+-- Worked examples of what documents 01 and 02 say of the four calls from a C stack. Each side computes to the other, so a
+-- definition that reads a sentence otherwise fails here.
 use Prim.Native.Nat.{ℕ}
 use mathlib.Core.Path.{_≡_, refl}
 use mathlib.Core.List.{List, [], _∷_, _++_, map}
