@@ -306,6 +306,7 @@ mod tests {
             (1, 1_051_000, 3_093_000),
             (2, 1_050_500, 3_091_500),
             (3, 1_050_000, 3_090_000),
+            (4, 1_054_000, 3_102_000),
         ] {
             let floor = Book::new(profile, 0).floor();
             let bound = |above, apart| followed(above, apart).wait(0, floor).bound();

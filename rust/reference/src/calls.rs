@@ -2,8 +2,8 @@
 
 use crate::state::Packet;
 
-/// "Refusal numbers": profile not 1 to 3. W-205: or an old way that is neither
-/// yes nor no.
+/// "Refusal numbers" and W-209: profile not 1 to 4. W-205: or an old way that is
+/// neither yes nor no.
 pub const BAD_PROFILE: u32 = 1;
 /// "Refusal numbers": step of 2,147,483,648 or more.
 pub const CLOCK_BACK: u32 = 2;

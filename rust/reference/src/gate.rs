@@ -147,28 +147,39 @@ fn sample(state: State, load: Option<u32>, stamp: u32) -> (State, Answer) {
     }
 }
 
-/// "Samples": profiles 1 and 2 step the level; profile 3 keeps or pairs.
+/// "Samples" and W-209: profiles 1 and 2 step the level; profile 3 keeps or
+/// pairs; profile 4 remembers the latest load.
 fn load_learnt(state: State, load: u32) -> State {
     if let Some(wanted) = rules::wanted_level(state.profile, load) {
-        State {
-            level: rules::level_step(state.level, wanted),
+        let level = rules::level_step(state.level, wanted);
+        return State { level, ..state };
+    }
+    match state.profile {
+        3 => paired(state, load),
+        _ => State {
+            latest: load,
             ..state
-        }
-    } else if state.haskept {
-        let smoothed = rules::smoothed_next(state.smoothed, state.kept, load);
-        State {
-            smoothed,
-            duty: rules::duty_next(state.duty, smoothed),
-            kept: 0,
-            haskept: false,
-            ..state
-        }
-    } else {
-        State {
+        },
+    }
+}
+
+/// "Samples", profile 3: each odd sample is kept, and each even one, with the
+/// kept one, updates.
+fn paired(state: State, load: u32) -> State {
+    if !state.haskept {
+        return State {
             kept: load,
             haskept: true,
             ..state
-        }
+        };
+    }
+    let smoothed = rules::smoothed_next(state.smoothed, state.kept, load);
+    State {
+        smoothed,
+        duty: rules::duty_next(state.duty, smoothed),
+        kept: 0,
+        haskept: false,
+        ..state
     }
 }
 
@@ -251,8 +262,8 @@ fn wait_left(state: &State) -> u64 {
     let Some(last) = state.last() else {
         return 0;
     };
-    let closed = rules::closed_for(state.profile, state.level, state.duty, last.ontime);
     let passed = state.time - last.at;
+    let closed = state.closed_for(last.ontime);
     closed.map_or(0, |closed| closed.saturating_sub(passed))
 }
 

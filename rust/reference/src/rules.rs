@@ -51,6 +51,21 @@ pub struct Adaptive {
     pub wait_from: WaitFrom,
 }
 
+/// The constants of the harmonised profile (W-209).
+#[derive(Clone, Copy, Debug, PartialEq, Eq)]
+pub struct Harmonised {
+    /// Longest on-time allowed, in µs. The shortest is 1.
+    pub on_time_max: u32,
+    /// Up to this load, in per mille, the wait is the shortest.
+    pub calm_to: u32,
+    /// The wait is held at or above this, in µs.
+    pub wait_least: u32,
+    /// The wait is held at or below this, in µs.
+    pub wait_most: u32,
+    /// Where the wait starts.
+    pub wait_from: WaitFrom,
+}
+
 /// Profile 1: reactive, Table A.1.
 pub const PROFILE_1: Reactive = Reactive {
     on_time_max: 1_000,
@@ -83,6 +98,15 @@ pub const PROFILE_3: Adaptive = Adaptive {
     wait_most: 1_000_000,
     // On-time over duty is a distance from start to start.
     wait_from: WaitFrom::Start,
+};
+
+/// Profile 4: harmonised, EN 302 571, clause 4.2.10 (W-209).
+pub const PROFILE_4: Harmonised = Harmonised {
+    on_time_max: 4_000,
+    calm_to: 620,
+    wait_least: 25_000,
+    wait_most: 1_000_000,
+    wait_from: WaitFrom::End,
 };
 
 /// The least duty of any state ("State and calls"), and a fresh state's.
@@ -118,9 +142,9 @@ pub const OLD_WAY: u32 = 1;
 /// The highest priority number.
 pub const PRIORITY_MOST: u32 = 3;
 
-/// Whether the profile is one of the three.
+/// Whether the profile is one of the four.
 pub fn profile_known(profile: u32) -> bool {
-    (1..=3).contains(&profile)
+    (1..=4).contains(&profile)
 }
 
 /// W-205: whether the number is a yes or a no to the old way.
@@ -137,17 +161,18 @@ pub fn reactive(profile: u32) -> Option<Reactive> {
     }
 }
 
-/// "The three profiles": the longest on-time allowed.
+/// "The three profiles" and W-209: the longest on-time allowed.
 pub fn on_time_max(profile: u32) -> Option<u32> {
     match profile {
         1 => Some(PROFILE_1.on_time_max),
         2 => Some(PROFILE_2.on_time_max),
         3 => Some(PROFILE_3.on_time_max),
+        4 => Some(PROFILE_4.on_time_max),
         _ => None,
     }
 }
 
-/// "The three profiles": whether the profile allows the on-time.
+/// "The three profiles" and W-209: whether the profile allows the on-time.
 /// An unknown profile allows none.
 pub fn on_time_allowed(profile: u32, ontime: u32) -> bool {
     match on_time_max(profile) {
@@ -278,21 +303,58 @@ pub fn wait_adaptive(duty: u32, ontime: u32) -> Option<u32> {
     Some(ceiling.max(least).min(most) as u32) // at most 1,000,000
 }
 
-/// "Waiting and leaving": the wait, by profile.
-pub fn wait(profile: u32, level: u32, duty: u32, ontime: u32) -> Option<u32> {
+/// W-209: a load in per mille, rounded up.
+pub fn per_mille(load: u32) -> u32 {
+    let whole = load / 1_000;
+    if load % 1_000 == 0 {
+        whole
+    } else {
+        whole + 1
+    }
+}
+
+/// W-209: the factor of a load in per mille: 3,999 − floor(2,480,000 / c) above
+/// 620. Up to there it has no part in the wait, and is 0.
+pub fn factor(c: u32) -> u32 {
+    if c <= PROFILE_4.calm_to {
+        0
+    } else {
+        3_999 - 2_480_000 / c // c is 621 or more, and the quotient at most 3,993
+    }
+}
+
+/// W-209: the wait after a packet of that on-time, at the latest load: 25,000
+/// for a calm one, else the factor times the on-time, held within 25,000 to
+/// 1,000,000.
+pub fn wait_harmonised(load: u32, ontime: u32) -> u32 {
+    let c = per_mille(load);
+    if c <= PROFILE_4.calm_to {
+        return PROFILE_4.wait_least;
+    }
+    let product = u64::from(factor(c)) * u64::from(ontime);
+    let least = u64::from(PROFILE_4.wait_least);
+    let most = u64::from(PROFILE_4.wait_most);
+    product.max(least).min(most) as u32 // at most 1,000,000
+}
+
+/// "Waiting and leaving" and W-209: the wait, by profile. `latest` is the
+/// latest load.
+pub fn wait(profile: u32, level: u32, duty: u32, ontime: u32, latest: u32) -> Option<u32> {
     match profile {
         1 | 2 => wait_reactive(profile, level),
         3 => wait_adaptive(duty, ontime),
+        4 => Some(wait_harmonised(latest, ontime)),
         _ => None,
     }
 }
 
-/// W-202: where the profile's wait starts.
+/// W-202 and W-209: where the profile's wait starts.
 pub fn wait_from(profile: u32) -> Option<WaitFrom> {
     match profile {
         1 => Some(PROFILE_1.wait_from),
         2 => Some(PROFILE_2.wait_from),
         3 => Some(PROFILE_3.wait_from),
+        4 => Some(PROFILE_4.wait_from),
         _ => None,
     }
 }
@@ -300,8 +362,8 @@ pub fn wait_from(profile: u32) -> Option<WaitFrom> {
 /// W-202: how long after an admission the gate is closed: the wait, and before
 /// it the on-time where the wait starts at the end. `ontime` is the admitted
 /// packet's.
-pub fn closed_for(profile: u32, level: u32, duty: u32, ontime: u32) -> Option<u64> {
-    let wait = u64::from(wait(profile, level, duty, ontime)?);
+pub fn closed_for(profile: u32, level: u32, duty: u32, ontime: u32, latest: u32) -> Option<u64> {
+    let wait = u64::from(wait(profile, level, duty, ontime, latest)?);
     match wait_from(profile)? {
         WaitFrom::Start => Some(wait),
         WaitFrom::End => Some(u64::from(ontime) + wait),

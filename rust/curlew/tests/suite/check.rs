@@ -207,6 +207,38 @@ fn the_second_is_watched() {
     );
 }
 
+/// In profile 4 the ceiling is not promised, and KEPT is not said of it; the second is watched there too.
+#[test]
+fn no_ceiling_is_claimed_of_profile_4() {
+    let mut text = "make 4 at 0\n".to_string();
+    let mut out = "READY\n".to_string();
+    for id in 0..8 {
+        text += &format!("offer {id} priority 0 ontime 4000 lifetime 60s at +0\npoll at +0\n");
+        text += "sample 620 at +29ms\n";
+        out += &format!("TAKEN\nSENT {id}\nTAKEN\n");
+    }
+    let log = log_of(&text);
+    let right = out.replace("SENT 7", "CLOSED 797000") + "END\n";
+    assert_eq!(answers(&log), right);
+    let told = check(&log, &right).good().text();
+    for words in [
+        "Ceiling    Not promised in profile 4, where 25 ms after one packet the next may go.",
+        "Second     KEPT. Closest call: the 174 ms from 0.000000 s on, with 28 ms of the 30 ms allowed",
+        "Verdict: KEPT. Second and floor held throughout, and the ceiling where it is promised.",
+    ] {
+        assert!(told.contains(words), "no '{words}' in: {told}");
+    }
+    assert!(!told.contains("Ceiling    KEPT"), "{told}");
+    check(&log, &(out + "END\n"))
+        .failed(1, "second: 32 ms admitted in the second up to 0.203000 s");
+    // The same answers in profile 3 pass the ceiling.
+    let log = log_of(&text.replace("make 4", "make 3"));
+    check(&log, &right).failed(
+        1,
+        "ceiling: 8,000 µs of air time in 29 ms, where 4,870 µs is allowed",
+    );
+}
+
 /// Two packets nearer than any wait, so short that neither ceiling is passed.
 #[test]
 fn the_gap_is_watched() {
@@ -240,6 +272,7 @@ fn the_floor_is_watched() {
         (1, 1_000, 1_001_000),
         (2, 500, 1_000_500),
         (3, 4_000, 1_000_000),
+        (4, 4_000, 1_004_000),
     ] {
         let mut text = format!("make {profile} at 0\n");
         text += &"sample 1000 at +0\n".repeat(4);

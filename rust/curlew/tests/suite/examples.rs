@@ -115,6 +115,35 @@ fn with_many_probes_a_threshold_is_met_to_the_probe() {
     }
 }
 
+/// What the log from abroad is there to show: the threshold, the second without a ceiling, and the floor.
+#[test]
+fn abroad_the_wait_goes_by_the_latest_load() {
+    let text = curlew(&["show", &example("abroad", "log")]).good().text();
+    for (call, wait) in [
+        ("sample, 7,750 of 12,500 busy", "load 62.000 %, 25 ms"),
+        ("sample, 7,751 of 12,500 busy", "load 62.008 %, 25 ms"),
+        ("sample, 7,763 of 12,500 busy", "load 62.104 %, 48 ms"),
+        ("sample, 8,750 of 12,500 busy", "load 70.000 %, 1 s"),
+    ] {
+        let row = text.lines().find(|line| line.contains(call)).unwrap();
+        assert!(row.ends_with(wait), "{row}");
+    }
+    assert!(text.contains("CLOSED 797000, second full"), "{text}");
+    let check = curlew(&[
+        "check",
+        &example("abroad", "log"),
+        &example("abroad", "out"),
+    ]);
+    let text = check.good().text();
+    for words in [
+        "Latest CLOSED: 1.003999 s after an admission; from 1.004 s on a poll sends.",
+        "Of priority 0, 9 went, 0 expired and 0 were displaced; 9 were promised",
+        "the 174 ms from 3.000000 s on, with 28 ms of the 30 ms allowed",
+    ] {
+        assert!(text.contains(words), "no '{words}' in: {text}");
+    }
+}
+
 /// What the jam is there to show.
 #[test]
 fn in_the_jam_a_warning_goes_each_second() {

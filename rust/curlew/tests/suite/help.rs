@@ -113,7 +113,7 @@ impl Drop for Folder {
 }
 
 /// The names of the example logs.
-pub const EXAMPLES: [&str; 9] = [
+pub const EXAMPLES: [&str; 10] = [
     "sample",
     "quiet-morning",
     "jam",
@@ -121,6 +121,7 @@ pub const EXAMPLES: [&str; 9] = [
     "keep-oldest",
     "any-second",
     "new-radio",
+    "abroad",
     "clock-wrap",
     "damaged-tail",
 ];

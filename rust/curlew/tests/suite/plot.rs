@@ -52,7 +52,14 @@ fn each_example_has_a_picture_that_explains_itself() {
         }
         let reactive = svg.contains("Level, and the wait that it asks for");
         let adaptive = svg.contains("Duty (% of the time that may be on air)");
-        assert!(reactive != adaptive);
+        let harmonised = svg.contains("Wait after the last packet (s), by the latest load");
+        let kinds = [reactive, adaptive, harmonised];
+        assert_eq!(kinds.iter().filter(|kind| **kind).count(), 1, "{name}");
+        assert_eq!(harmonised, name == "abroad");
+        assert_eq!(
+            harmonised,
+            svg.contains("dotted: 62 %, above which the wait grows")
+        );
         let adapts = ["quiet-morning", "any-second", "damaged-tail"];
         assert_eq!(adaptive, adapts.contains(&name));
     }

@@ -628,7 +628,7 @@ fn wrong_answers(rng: &mut Rng, right: &Answer, state: &State) -> Vec<Answer> {
 
 #[test]
 fn changed_answers_in_random_runs_are_rejected() {
-    for profile in [1, 2, 3] {
+    for profile in [1, 2, 3, 4] {
         let (mut state, _) = gate::make(profile, 0, 0);
         let mut book = Book::new(profile, 0);
         let mut caller = Caller::new(profile, 40);

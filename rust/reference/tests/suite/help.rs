@@ -6,8 +6,8 @@ use reference::state::{Admission, Counts, Packet, Queue, State};
 
 pub use reference::gate::{Answer, Call};
 
-/// The three profiles.
-pub const PROFILES: [u32; 3] = [1, 2, 3];
+/// The four profiles.
+pub const PROFILES: [u32; 4] = [1, 2, 3, 4];
 
 /// The two ways that a gate is made in: a full queue drops its oldest, or it
 /// refuses.

@@ -192,7 +192,7 @@ fn a_make_starts_afresh_and_a_refused_one_leaves_nothing() {
         poll(7),
         make(0, 7),
         poll(7),
-        make(4, 7),
+        make(5, 7),
         sample(0, 7),
         make(255, 7),
         offer(1, 0, 1, 1_000, 7),

@@ -7,7 +7,7 @@ use reference::state::State;
 const BACK: u32 = 2_147_483_648;
 
 #[test]
-fn make_takes_three_profiles() {
+fn make_takes_four_profiles() {
     for profile in PROFILES {
         for (oldway, stamp) in [(0, 0), (0, 1), (0, u32::MAX), (1, 0), (1, 7)] {
             let (state, answer) = gate::make(profile, oldway, stamp);
@@ -23,7 +23,7 @@ fn make_takes_three_profiles() {
             assert_eq!(state, expected);
         }
     }
-    for profile in [0, 4, 5, 255, 256, u32::MAX] {
+    for profile in [0, 5, 6, 255, 256, u32::MAX] {
         for oldway in [0, 1, 2] {
             let none = State::default();
             assert_refused(none, gate::make(profile, oldway, 7), 1);
@@ -102,7 +102,7 @@ fn number_5_priority() {
 
 #[test]
 fn number_6_on_time() {
-    for (profile, most) in [(1, 1_000), (2, 500), (3, 4_000)] {
+    for (profile, most) in [(1, 1_000), (2, 500), (3, 4_000), (4, 4_000)] {
         let state = fresh(profile);
         for ontime in [1, most] {
             assert_eq!(gate::offer(state, 1, 0, ontime, 1, 0).1, Answer::Taken);

@@ -232,6 +232,17 @@ fn the_claim_holds_in_profile_3() {
     assert_eq!(book.closest().smallest_slack, Some(0));
 }
 
+#[test]
+fn the_claim_holds_in_profile_4() {
+    claim_holds(4);
+    let (_, book) = run(4, 0, 3, 50_000);
+    // The shortest wait, after the shortest on-time.
+    assert_eq!(book.closest().shortest_gap, Some(25_001));
+    // The ceiling isn't claimed; the second is.
+    assert_eq!(book.closest().smallest_slack, None);
+    assert!(book.closest().fullest_stretch > 20_000);
+}
+
 /// Takes one call of a run; the book holds its answer to demand 3.
 pub fn told((state, book): &mut (State, Book), call: Call) -> Answer {
     let (next, answer) = gate::call(*state, &call);
@@ -241,7 +252,8 @@ pub fn told((state, book): &mut (State, Book), call: Call) -> Answer {
 }
 
 /// A run that reaches the floor: four loud samples ask for the longest wait of
-/// profiles 1 and 2, a fresh duty for profile 3's, and this on-time goes first.
+/// profiles 1 and 2, and the last of them for profile 4's; a fresh duty for
+/// profile 3's. This on-time goes first.
 fn reaches_the_floor(profile: u32, ontime: u32, floor: u32) {
     let mut run = (gate::make(profile, 0, 0).0, Book::new(profile, 0));
     if profile != 3 {
@@ -297,6 +309,11 @@ fn a_run_of_profile_3_reaches_the_floor() {
     for ontime in [600, 601, 4_000] {
         reaches_the_floor(3, ontime, 1_000_000);
     }
+}
+
+#[test]
+fn a_run_of_profile_4_reaches_the_floor() {
+    reaches_the_floor(4, 4_000, 1_004_000);
 }
 
 #[test]

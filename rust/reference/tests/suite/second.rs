@@ -348,11 +348,10 @@ fn closed_is_the_smallest_wait_that_sends() {
 
 /// What is left of the wait alone.
 fn wait_left(state: &State) -> u64 {
-    let (profile, level, duty) = (state.profile, state.level, state.duty);
     let Some(last) = state.last() else {
         return 0;
     };
-    let closed = rules::closed_for(profile, level, duty, last.ontime).unwrap();
+    let closed = state.closed_for(last.ontime).unwrap();
     closed.saturating_sub(state.time - last.at)
 }
 
@@ -431,7 +430,7 @@ fn runs_at_the_edge_of_the_second() {
 /// A fresh state holds no admission, and neither does the not live one.
 #[test]
 fn a_fresh_ledger_is_empty() {
-    for profile in 0..=4 {
+    for profile in 0..=5 {
         let (state, _) = gate::make(profile, 0, 7);
         assert_eq!(state.ledger, reference::state::Ledger::default());
     }
