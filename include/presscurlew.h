@@ -24,10 +24,15 @@
  *   lifetime  how long a packet may wait, microseconds        1 to 60,000,000
  *   priority  0 (highest) to 3
  *
- * Profiles (ETSI TS 102 687 V1.2.1)       on-time allowed
- *   1   reactive, Table A.1               1 to 1,000
- *   2   reactive, Table A.2               1 to   500
- *   3   adaptive, clause 5.4              1 to 4,000
+ * Profiles                                               on-time allowed
+ *   1   reactive, ETSI TS 102 687 V1.2.1, Table A.1      1 to 1,000
+ *   2   reactive, ETSI TS 102 687 V1.2.1, Table A.2      1 to   500
+ *   3   adaptive, ETSI TS 102 687 V1.2.1, clause 5.4     1 to 4,000
+ *   4   harmonised, ETSI EN 302 571, clause 4.2.10       1 to 4,000
+ *
+ * What they have in common: after an admission a gate is closed for at least 25,000 us and at most 1,000,000 us and the
+ * longest on-time, and in any 1,000,000 us it admits at most 30,000 us of on-time. Profiles 1 to 3 admit on-time for at
+ * most 3 % of any stretch of time and 4,000 us more; of profile 4 that is not claimed.
  */
 #ifndef PRESSCURLEW_H
 #define PRESSCURLEW_H
@@ -46,7 +51,7 @@ extern "C" {
  * write the log refuse stands with them.
  */
 enum presscurlew_refusal {
-    PRESSCURLEW_BAD_PROFILE = 1,  /* make: the profile is not 1 to 3, or when_full is above 1 */
+    PRESSCURLEW_BAD_PROFILE = 1,  /* make: the profile is not 1 to 4, or when_full is above 1 */
     PRESSCURLEW_CLOCK_BACK = 2,   /* from the last stamp to this one, modulo 2^32, are 2,147,483,648 us or more */
     PRESSCURLEW_CLOCK_END = 3,    /* the running time would pass 10^15 us, some 31 years */
     PRESSCURLEW_BAD_SAMPLE = 4,   /* not 1 to 12,500 probes, not just enough words, a stray bit, or busy above probes */
@@ -163,6 +168,7 @@ typedef struct presscurlew_tuning {
     uint32_t smoothed; /* the smoothed load, at most 1,000,000; profile 3 moves it */
     uint32_t kept;     /* profile 3: the load of the first sample of a pair, at most 1,000,000; 0 if none is kept */
     uint32_t pairing;  /* 1 while a sample is kept, else 0 */
+    uint32_t latest;   /* profile 4: the load of the latest sample, at most 1,000,000, 0 before any; else 0 */
 } presscurlew_tuning;
 
 /* What a gate does with an offer that finds 5 unexpired packets of its priority; it is said when the gate is made. */
@@ -171,7 +177,7 @@ enum presscurlew_when_full {
     PRESSCURLEW_REFUSE_NEW = 1   /* QUEUE_FULL: what was taken once is sent or expires, and is never displaced */
 };
 
-/* The state of one gate: 1,096 bytes. */
+/* The state of one gate: 1,104 bytes. */
 typedef struct presscurlew_state {
     presscurlew_queue queues[4]; /* by priority */
     presscurlew_ledger ledger;
@@ -179,7 +185,7 @@ typedef struct presscurlew_state {
     presscurlew_last last;
     presscurlew_counts counts;
     presscurlew_tuning tuning;
-    uint32_t profile; /* 1 to 3, as it was made; no call changes it */
+    uint32_t profile; /* 1 to 4, as it was made; no call changes it */
     uint32_t oldway;  /* 0 or 1, an enum presscurlew_when_full, as it was made; no call changes it */
     uint32_t live;    /* 1; 0 in the all-zero state that a refused make hands back */
 } presscurlew_state;
@@ -197,7 +203,7 @@ enum presscurlew_kind {
 /* The answer to a call. What its kind does not use is 0. */
 typedef struct presscurlew_reply {
     presscurlew_packet packet; /* SENT: the whole packet */
-    uint64_t number;           /* CLOSED: the us left, 1 to 1,001,000; REFUSED: the refusal, 1 to 9 or 11 */
+    uint64_t number;           /* CLOSED: the us left, 1 to 1,004,000; REFUSED: the refusal, 1 to 9 or 11 */
     uint32_t kind;             /* an enum presscurlew_kind */
 } presscurlew_reply;
 
@@ -208,9 +214,9 @@ typedef struct presscurlew_turn {
 } presscurlew_turn;
 
 /*
- * A fresh state: running time 0, level 0, duty 600,000, smoothed load 0, nothing kept, nothing admitted,
- * nothing waiting, nothing counted. `when_full` is an enum presscurlew_when_full, which the state keeps, and
- * `stamp` is the radio's clock now. READY.
+ * A fresh state: running time 0, level 0, duty 600,000, smoothed and latest load 0, nothing kept, nothing
+ * admitted, nothing waiting, nothing counted. `when_full` is an enum presscurlew_when_full, which the state
+ * keeps, and `stamp` is the radio's clock now. READY.
  *
  * Refusals: BAD_PROFILE, with the all-zero state, which every other call refuses with NO_STATE.
  */
@@ -230,11 +236,11 @@ enum { PRESSCURLEW_MOST_PROBES = 12500, PRESSCURLEW_MOST_WORDS = 196 };
  *
  *   load = floor(1,000,000 x busy / probes)
  *
- * With 1,000 probes that is 1,000 for each busy one; with 12,500, a probe each 8 us for 100 ms, 80. The number of probes
- * may differ from sample to sample, and nothing but the load is made of it. Profiles 1 and 2 move the level by at most
- * one towards the one that the load wants. Profile 3 keeps each odd sample, and with each even one updates smoothed
- * load and duty. A sample expires nothing and counts nothing. It drops aged admissions from the ledger, as every call
- * does that is not refused.
+ * With 1,000 probes that is 1,000 for each busy one; with 12,500, a probe each 8 us for 100 ms, 80. The number of
+ * probes may differ from sample to sample, and nothing but the load is made of it. Profiles 1 and 2 move the level by
+ * at most one towards the one that the load wants. Profile 3 keeps each odd sample, and with each even one updates
+ * smoothed load and duty. Profile 4 notes the load in place of the one before. A sample expires nothing and counts
+ * nothing. It drops aged admissions from the ledger, as every call does that is not refused.
  *
  *   uint64_t words[PRESSCURLEW_WORDS(12500)] = {0};
  *   for (unsigned k = 0; k < 12500; k++)
@@ -353,15 +359,16 @@ static inline void presscurlew_put_offer(uint8_t *record, uint32_t id, uint32_t 
  * admissions have aged. Polled so much later this packet goes, and not 1 us before, unless a sample, an offer or its
  * own expiry came between.
  *
- * presscurlew_wait, below, says what the wait is; it is taken afresh at each poll, with the level or duty of
- * that moment. It starts
- *   profiles 1 and 2   when the transmitter stops: the on-time of the packet admitted last after its admission
+ * presscurlew_wait, below, says what the wait is; it is taken afresh at each poll, with the level, duty or latest
+ * load of that moment. It starts
+ *   profiles 1, 2, 4   when the transmitter stops: the on-time of the packet admitted last after its admission
  *   profile 3          at the admission
  * so a poll that finds a packet sends it if the last admission is this long ago, or longer (by then the ledger is
  * empty), and CLOSED never has more:
  *   profile 1          1,001,000 us
  *   profile 2          1,000,500 us
  *   profile 3          1,000,000 us
+ *   profile 4          1,004,000 us
  *
  * So a gate admits at most 30,000 us of on-time in any 1,000,000 us, wherever they begin.
  *
@@ -510,23 +517,29 @@ presscurlew_level_answer presscurlew_level_step(uint32_t profile, uint32_t load,
 presscurlew_duty_answer presscurlew_duty_update(uint32_t duty, uint32_t smoothed, uint32_t kept, uint32_t new_load);
 
 /*
- * The wait before the next admission, in microseconds. `ontime` is that of the packet admitted last. In
- * profiles 1 and 2 the wait runs from that packet's end, `ontime` after its admission, and the on-time is no
- * part of the number; in profile 3 it runs from the admission, start to start. Level, duty and on-time are
- * judged in every profile, also where it does not use them; pass 0 as level in profile 3, and 600,000 as
- * duty in profiles 1 and 2.
+ * The wait before the next admission, in microseconds. `ontime` is that of the packet admitted last, and `load` the
+ * load of the latest sample, 0 before any. In profiles 1, 2 and 4 the wait runs from that packet's end, `ontime` after
+ * its admission, and the on-time is not added to the number; in profile 3 it runs from the admission, start to start.
+ * All are judged in every profile, also where it does not use them; pass 0 as level and as load, and 600,000 as duty,
+ * where the profile has none.
  *
  *   level        0        1        2        3        4
  *   profile 1    100,000  200,000  400,000  500,000  1,000,000
  *   profile 2     50,000  100,000  200,000  250,000  1,000,000
  *   profile 3    ceil(ontime x 1,000,000,000 / duty), held in 25,000 to 1,000,000
+ *   profile 4    with c = ceil(load / 1,000), the load in per mille: 25,000 for c up to 620, else
+ *                (3,999 - floor(2,480,000 / c)) x ontime, held in 25,000 to 1,000,000
  *
- * Level and duty change with each sample, so take the wait afresh each time that it is needed.
+ * In profile 4 the factor before the on-time is 6 for c = 621, 12 for 622, 457 for 700 and 1,519 for 1,000. The wait is
+ * never shorter than that of the published formula, without rounding and held in the same limits.
  *
- * Refusals: 1 if profile is not 1 to 3; 9 if level is above 4, or duty is not 600,000 to 30,000,000;
- * 6 if the profile does not allow the on-time.
+ * Level, duty and load change with each sample, so take the wait afresh each time that it is needed.
+ *
+ * Refusals: 1 if profile is not 1 to 4; 9 if level is above 4, or duty is not 600,000 to 30,000,000; 4 if load is above
+ * 1,000,000; 6 if the profile does not allow the on-time.
  */
-presscurlew_wait_answer presscurlew_wait(uint32_t profile, uint32_t level, uint32_t duty, uint32_t ontime);
+presscurlew_wait_answer presscurlew_wait(uint32_t profile, uint32_t level, uint32_t duty, uint32_t ontime,
+                                         uint32_t load);
 
 #ifdef __cplusplus
 }

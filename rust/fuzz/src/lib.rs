@@ -68,7 +68,7 @@ impl Input<'_> {
 
     /// Any state, often a sound one.
     fn state(&mut self) -> State {
-        let profile = self.of(&[1, 2, 3, 0, 4]);
+        let profile = self.of(&[1, 2, 3, 4, 0, 5]);
         let (way, stamp) = (
             self.of(&[0, 1, 0, 1, 2]),
             self.of(&[0, 1, 1 << 31, u32::MAX]),
@@ -86,6 +86,11 @@ impl Input<'_> {
         state.smoothed = self.of(&[0, 680_000, 1_000_000, 1_000_001]);
         state.haskept = self.byte() % 2 == 1;
         state.kept = self.of(&[0, 400_000, 1_000_000, 1_000_001]);
+        state.latest = match state.profile {
+            4 => self.of(&[0, 620_000, 620_001, 650_000, 1_000_000, 1_000_001]),
+            _ if self.byte() == 255 => self.number(),
+            _ => 0,
+        };
         self.fill_queues(&mut state);
         let state = self.admitted(state);
         self.counted(state)
@@ -242,7 +247,7 @@ impl Input<'_> {
         let stamp = self.number();
         match self.byte() % 4 {
             0 => LogCall::Make {
-                profile: self.of(&[1, 2, 3, 0, 4, 255, 256, u32::MAX]),
+                profile: self.of(&[1, 2, 3, 4, 0, 5, 255, 256, u32::MAX]),
                 oldway: self.of(&[0, 1, 2, 256, u32::MAX]),
                 stamp,
             },
@@ -314,7 +319,7 @@ fn follow(bytes: &[u8]) {
         } else {
             hold_no_state(&raw(&state), &call, &"fuzz");
             // What was broken stays so: on with a fresh state.
-            state = State::fresh(1 + state.stamp % 3, state.stamp / 3 % 2, state.stamp);
+            state = State::fresh(1 + state.stamp % 4, state.stamp / 4 % 2, state.stamp);
         }
     }
 }

@@ -85,7 +85,7 @@ pub struct Offer {
     pub id: u32,
     /// The priority, 0 (highest) to 3.
     pub priority: u32,
-    /// The time on air in µs: at most 1,000, 500 or 4,000, by the profile.
+    /// The time on air in µs: at most 1,000, 500, 4,000 or 4,000, by the profile.
     pub ontime: u32,
     /// How long it may wait, in µs: at most 60,000,000.
     pub lifetime: u32,
@@ -101,7 +101,8 @@ pub enum Answer {
     /// The gate is closed.
     Closed {
         /// The µs after which the packet that is next would go, if no sample and no offer came between and it did not
-        /// expire: at least 1, and at most 1,001,000 in profile 1, 1,000,500 in profile 2 and 1,000,000 in profile 3.
+        /// expire: at least 1, and at most 1,001,000 in profile 1, 1,000,500 in profile 2, 1,000,000 in profile 3 and
+        /// 1,004,000 in profile 4.
         micros: u64,
     },
 }
@@ -143,7 +144,7 @@ impl Offer {
 /// Why a call was refused. A refused call changes nothing, clock and counts included.
 #[derive(Clone, Copy, Debug, PartialEq, Eq, Hash)]
 pub enum Refusal {
-    /// The profile is not 1 to 3. ([`sys::presscurlew_make`] answers this also if `when_full` is above 1.)
+    /// The profile is not 1 to 4. ([`sys::presscurlew_make`] answers this also if `when_full` is above 1.)
     BadProfile = 1,
     /// The step from the last stamp, modulo 2^32, is 2,147,483,648 or more.
     ClockBack = 2,
@@ -229,7 +230,7 @@ impl Refusal {
 
     const fn reason(self) -> &'static str {
         match self {
-            Refusal::BadProfile => "the profile is not 1 to 3",
+            Refusal::BadProfile => "the profile is not 1 to 4",
             Refusal::ClockBack => "the clock went back",
             Refusal::ClockEnd => "the running time would pass 10^15 µs",
             Refusal::BadSample => "it is not a sample of 1 to 12,500 probes",
@@ -276,7 +277,7 @@ fn taken(answer: u8) -> Result<(), Refusal> {
 }
 
 impl Gate {
-    /// A fresh gate of profile 1 to 3, at the radio's stamp. What it does when a queue is full is fixed here.
+    /// A fresh gate of profile 1 to 4, at the radio's stamp. What it does when a queue is full is fixed here.
     ///
     /// # Errors
     ///
@@ -389,7 +390,7 @@ impl Gate {
 
     /// Whether a packet may go, and which: the oldest of the lowest-numbered queue that has one.
     ///
-    /// After an admission the gate is closed until the wait ([`crate::rules::wait`]) is over. In profiles 1 and 2 the
+    /// After an admission the gate is closed until the wait ([`crate::rules::wait`]) is over. In profiles 1, 2 and 4 the
     /// wait starts when the packet is off the air, its on-time after the admission; in profile 3 with the admission.
     ///
     /// It is closed for a packet, too, with which more than 30,000 µs would be admitted in the 1,000,000 µs up to and

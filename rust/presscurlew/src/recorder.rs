@@ -142,7 +142,7 @@ impl<W: Write> Recorder<W> {
     ) -> Result<Recorder<W>, RecordError> {
         let failed = false;
         let mut log = Log { sink, failed };
-        // Any profile above 3 is refused, so that the most that fits stands for those above it.
+        // Any profile above 4 is refused, so that the most that fits stands for those above it.
         let profile = profile.min(u8::MAX.into());
         let way = when_full as u32;
         log.record(|place| sys::write_make(profile, way, stamp, place, 0))?;

@@ -75,8 +75,15 @@ unsafe extern "C" {
         new: u32,
     ) -> DutyAnswer;
 
-    /// The wait after a packet of this on-time: from its end in profiles 1 and 2, from its start in profile 3.
-    pub safe fn presscurlew_wait(profile: u32, level: u32, duty: u32, ontime: u32) -> WaitAnswer;
+    /// The wait after a packet of this on-time, the latest sample having this load: from the packet's end in profiles
+    /// 1, 2 and 4, from its start in profile 3.
+    pub safe fn presscurlew_wait(
+        profile: u32,
+        level: u32,
+        duty: u32,
+        ontime: u32,
+        load: u32,
+    ) -> WaitAnswer;
 }
 
 /// A packet that waits. An unused slot is all zero.
@@ -179,6 +186,8 @@ pub struct Tuning {
     pub kept: u32,
     /// 1 while a sample is kept, else 0.
     pub pairing: u32,
+    /// In profile 4 the load of the latest sample, in parts per 1,000,000; 0 before any, and in the other profiles.
+    pub latest: u32,
 }
 
 /// The state of one gate. Any values at all may stand in it: the calls refuse a state that is not sound.
@@ -197,7 +206,7 @@ pub struct State {
     pub counts: Counts,
     /// What samples steer.
     pub tuning: Tuning,
-    /// The profile, 1 to 3; no call changes it.
+    /// The profile, 1 to 4; no call changes it.
     pub profile: u32,
     /// [`DROP_OLDEST`] or [`REFUSE_NEW`]; no call changes it.
     pub oldway: u32,

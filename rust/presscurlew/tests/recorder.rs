@@ -255,7 +255,7 @@ fn what_does_not_fit_is_refused_alike() {
 /// A make that is refused is in the log, whatever the profile, and is refused when it is played.
 #[test]
 fn a_refused_make_is_recorded() {
-    for profile in [0, 4, 77, 255, 256, 257, 65_537, u32::MAX] {
+    for profile in [0, 5, 77, 255, 256, 257, 65_537, u32::MAX] {
         for way in WHEN_FULL {
             let mut log = Vec::new();
             let made = Recorder::new(profile, way, 9, &mut log);

@@ -130,7 +130,7 @@ fn bytes(records: &[Record]) -> Vec<u8> {
 fn run(seed: u64, count: usize) -> Vec<u8> {
     let mut rng = Rng::new(seed);
     let mut stamp = rng.next_u32();
-    let mut records = vec![make(1 + rng.below(3) as u8, rng.below(2) as u32, stamp)];
+    let mut records = vec![make(1 + rng.below(4) as u8, rng.below(2) as u32, stamp)];
     while records.len() < count {
         records.push(record(&mut rng, &mut stamp));
     }
@@ -203,7 +203,7 @@ fn makes_again_and_refused_makes() {
     for turn in 0..20_000 {
         if turn % 20 == 0 {
             let way = rng.pick(&[0, 0, 0, 1, 1, 1, 2, 256, 1 << 31]);
-            records.push(make(rng.below(6) as u8, way, stamp));
+            records.push(make(rng.below(7) as u8, way, stamp));
         }
         records.push(record(&mut rng, &mut stamp));
     }
@@ -214,7 +214,7 @@ fn makes_again_and_refused_makes() {
 /// poll after each of four busy counts.
 #[test]
 fn every_probe_count() {
-    for profile in 1..=3 {
+    for profile in 1..=4 {
         let mut stamp = 0;
         let mut records = vec![make(profile, 0, stamp)];
         for probes in (0..=12_600).chain([1 << 16, (1 << 16) + 1_000, 1 << 31, u32::MAX]) {
@@ -247,7 +247,7 @@ fn every_probe_count() {
 fn full_queues() {
     let mut records = Vec::new();
     for way in [0, 1, 2, 255, 256, 1 << 16, u32::MAX] {
-        for profile in 0..5 {
+        for profile in 0..6 {
             records.push(make(profile, way, 0));
             let offer = |id| Record {
                 kind: 2,

@@ -80,6 +80,7 @@ fn state(s: sys::State) -> State {
         smoothed: s.tuning.smoothed,
         kept: s.tuning.kept,
         pairing: s.tuning.pairing,
+        latest: s.tuning.latest,
         profile: s.profile,
         oldway: s.oldway,
         live: s.live,

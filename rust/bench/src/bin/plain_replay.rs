@@ -43,7 +43,7 @@ fn line(out: &mut Vec<u8>, answer: Answer) {
 fn record(state: &mut State, bytes: &[u8], out: &mut Vec<u8>) {
     let stamp = word(bytes, 12);
     let answer = match bytes[0] {
-        0 if (1..=3).contains(&bytes[1]) && word(bytes, 4) <= 1 => {
+        0 if (1..=4).contains(&bytes[1]) && word(bytes, 4) <= 1 => {
             *state = State::new(bytes[1] as u32, word(bytes, 4), stamp);
             out.extend_from_slice(b"READY\n");
             return;

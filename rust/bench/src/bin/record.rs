@@ -123,7 +123,7 @@ struct Mix {
 const MIXES: [Mix; 9] = [
     Mix {
         name: "make",
-        call: |i| [0, 1 + i % 3, i % 2, 0, 0],
+        call: |i| [0, 1 + i % 4, i % 2, 0, 0],
         step: 1_000,
     },
     Mix {

@@ -34,7 +34,7 @@ struct Start {
 /// What a row ends in: of the state the numbers that samples move, and the last record.
 #[derive(Debug, Default, PartialEq, Eq)]
 struct End {
-    tuning: [u32; 5],
+    tuning: [u32; 6],
     time: u64,
     record: [u8; sys::RECORD_BYTES],
 }
@@ -43,7 +43,7 @@ impl End {
     fn of_archive(state: &sys::State) -> End {
         let t = state.tuning;
         End {
-            tuning: [t.level, t.duty, t.smoothed, t.kept, t.pairing],
+            tuning: [t.level, t.duty, t.smoothed, t.kept, t.pairing, t.latest],
             time: state.clock.time,
             record: [0; sys::RECORD_BYTES],
         }
@@ -51,7 +51,7 @@ impl End {
 
     fn of_plain(s: &State) -> End {
         End {
-            tuning: [s.level, s.duty, s.smoothed, s.kept, s.pairing],
+            tuning: [s.level, s.duty, s.smoothed, s.kept, s.pairing, s.latest],
             time: s.time,
             record: [0; sys::RECORD_BYTES],
         }

@@ -14,7 +14,7 @@ use reference::writer;
 pub use reference::gate::{Answer, Call};
 pub use reference::log::LogCall;
 
-pub const PROFILES: [u32; 3] = [1, 2, 3];
+pub const PROFILES: [u32; 4] = [1, 2, 3, 4];
 /// What a gate does when a queue is full.
 pub const WAYS: [u32; 2] = [sys::DROP_OLDEST, sys::REFUSE_NEW];
 /// The same, as `Gate` has it.
@@ -146,6 +146,7 @@ pub fn raw(state: &State) -> sys::State {
             smoothed: state.smoothed,
             kept: state.kept,
             pairing: u32::from(state.haskept),
+            latest: state.latest,
         },
         profile: state.profile,
         oldway: state.oldway,

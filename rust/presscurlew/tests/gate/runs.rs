@@ -118,8 +118,7 @@ impl Caller {
             turns.extend(expiries.map(|packet| packet.arrival + u64::from(packet.lifetime)));
         }
         if state.any {
-            let closed = rules::closed_for(state.profile, state.level, state.duty, state.ontime);
-            turns.push(state.at + closed.unwrap());
+            turns.push(state.at + closed_for(state));
         }
         let admissions = state.ledger.held().iter();
         turns.extend(admissions.map(|admission| admission.at + rules::SECOND));
@@ -172,6 +171,19 @@ fn by_count(rng: &mut Rng, stamp: u32) -> Call {
         probes,
         stamp,
     }
+}
+
+/// How long the gate is closed after the last admission, by the reference.
+pub fn closed_for(state: &State) -> u64 {
+    let &State {
+        profile,
+        level,
+        duty,
+        ontime,
+        latest,
+        ..
+    } = state;
+    rules::closed_for(profile, level, duty, ontime, latest).expect("a sound state's numbers")
 }
 
 /// How often each answer came.
@@ -307,6 +319,11 @@ fn runs_of_profile_3() {
     runs(3);
 }
 
+#[test]
+fn runs_of_profile_4() {
+    runs(4);
+}
+
 /// Runs from states that are fresh but for their counts, with so many offers left: then offers are refused, and
 /// all else goes on.
 #[test]
@@ -344,7 +361,12 @@ fn runs_that_spend_their_offers() {
 /// In each profile a run with the longest wait after the longest on-time: closed to the last µs before the floor.
 #[test]
 fn runs_that_reach_the_floor() {
-    for (profile, floor) in [(1, 1_001_000), (2, 1_000_500), (3, 1_000_000)] {
+    for (profile, floor) in [
+        (1, 1_001_000),
+        (2, 1_000_500),
+        (3, 1_000_000),
+        (4, 1_004_000),
+    ] {
         let mut state = made(profile, sys::DROP_OLDEST, 0);
         let mut asked = vec![];
         if profile != 3 {
@@ -383,7 +405,7 @@ fn runs_that_reach_the_floor() {
     }
 }
 
-/// A make of any profile, way and stamp: only 1 to 3 in a known way are ready, else the all-zero state comes back.
+/// A make of any profile, way and stamp: only 1 to 4 in a known way are ready, else the all-zero state comes back.
 #[test]
 fn makes() {
     let stamps = [0, 1, 1 << 31, u32::MAX];

@@ -144,7 +144,7 @@ fn ways_have_their_numbers() {
 
 #[test]
 fn bad_profiles_make_no_gate() {
-    for profile in [0, 4, u32::MAX] {
+    for profile in [0, 5, u32::MAX] {
         for way in WHEN_FULL {
             assert_eq!(Gate::new(profile, way, 0), Err(Refusal::BadProfile));
         }
