@@ -16,8 +16,8 @@ use Rattle.model.specs.State.{View, withClock, withControl, withLast, wi
 use Rattle.model.specs.Effects.{result}
 use Rattle.model.specs.Gate.{make, call}
 use Rattle.model.proofs.Computing.{of-runs}
-use Rattle.model.proofs.Worked.{clockAt, lastAt, counted, withDisplaced, steered, lately, packet, queues, state, withWay, upToDate}
-use Rattle.model.proofs.Worked.{making, makingOld, offering, crowded}
+use Rattle.model.proofs.Worked.{clockAt, lastAt, counted, withDisplaced, steered, lately, packet, queues, state}
+use Rattle.model.proofs.Worked.{withWay, upToDate, making, makingOld, offering, crowded}
 
 -- "A fresh state: live, last stamp as given to make, running time 0, level 0, duty 600,000, smoothed load 0, no sample kept,
 -- nothing admitted, queues empty.", and nothing counted (W-201)
