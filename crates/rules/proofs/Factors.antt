@@ -7,26 +7,13 @@ use native.Mathlib.Nat.{mul-le-mul-left, mul-le-mul-right, add-mul, mul-add, mul
 use native.Mathlib.Nat.{sub-add-cancel, div-mul-le-self}
 use native.Mathlib.Omega.{arith}
 use lib.Dec.{leb}
-use borrow.Author.Tests.{le-leb, lt-leb}
-use Rattle.rules.specs.declared.Harmonised.{Harmonised}
+use borrow.Author.Tests.{lt-leb}
 use Rattle.rules.specs.Profiles.{profile4}
 use Rattle.rules.specs.Duty.{held}
 use Rattle.rules.specs.Harmonised.{perMille, factorOf, harmonisedWait, NeverShorter, NeverShorterWhole}
 use Rattle.rules.proofs.Cases.{on-cond}
 use Rattle.rules.proofs.Ceiling.{quotient-lt}
 use Rattle.rules.proofs.Waits.{Within}
-
--- the wait by where the load lies
-pub waits-calm : (h : Harmonised) (ontime load : ℕ) → perMille load ≤ h .calm
-    → harmonisedWait h ontime load ≡ h .limits .leastwait
-unfolding harmonisedWait
-waits-calm h ontime load l = rw (le-leb (perMille load) (h .calm) l)
-
-pub waits-above : (h : Harmonised) (ontime load : ℕ) → h .calm < perMille load
-    → harmonisedWait h ontime load
-    ≡ held (h .limits .leastwait) (h .limits .mostwait) ((h .top - h .scale / perMille load) * ontime)
-unfolding harmonisedWait factorOf
-waits-above h ontime load l = rw (lt-leb (perMille load) (h .calm) l)
 
 pub within4 : (ontime load : ℕ) → Within (profile4 .limits) (harmonisedWait profile4 ontime load)
 unfolding harmonisedWait
@@ -44,7 +31,7 @@ quotient-le n c load h =
     omega (arith, mul-le-mul-left 1000 b)
 
 -- above 620 per mille the quotient is below 4,000, so the factor is not cut off at 0
-pub quotient-below : (c : ℕ) → 620 < c → 2480000 / c < 4000
+quotient-below : (c : ℕ) → 620 < c → 2480000 / c < 4000
 quotient-below c k = quotient-lt 2480000 c 4000 (omega arith) (omega arith)
 
 above : (load : ℕ) → 620000 < load → 620 < perMille load

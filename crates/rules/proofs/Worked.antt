@@ -6,6 +6,7 @@ use mathlib.Core.Bool.{true, false}
 use mathlib.Core.List.{List, [], _∷_, _++_, map}
 use mathlib.Core.Logic.{inl, inr}
 use lib.IntN.{ℤ, pos, negℤ}
+use lib.ListN.{length, getD}
 use lib.ListN.{replicate}
 use Rattle.rules.specs.declared.Sample.the-variants.{Busy, Bad}
 use Rattle.rules.specs.Tests.{allOf}
@@ -20,6 +21,7 @@ use Rattle.rules.specs.Levels.{wantedBy, towards, waitBy}
 use Rattle.rules.specs.Duty.{floorDiv, held, heldOffset, heldWhole, smoothedOf, offsetOf, dutyOf}
 use Rattle.rules.specs.Wait.{ceilDiv, wholeDuty, adaptiveWait, startOf}
 use Rattle.rules.specs.Harmonised.{perMille, factorOf, harmonisedWait}
+use Rattle.rules.specs.Table.{values, factorTable}
 use Rattle.rules.specs.Readings.{readings}
 use Rattle.rules.proofs.Readings.{readings-hold}
 
@@ -448,6 +450,13 @@ factors :
     map (factorOf profile4) (0 ∷ 1 ∷ 619 ∷ 620 ∷ 621 ∷ 622 ∷ 700 ∷ 1000 ∷ []) ≡ 0 ∷ 0 ∷ 0 ∷ 0 ∷ 6 ∷ 12 ∷ 457 ∷ 1519 ∷ []
 unfolding factorOf
 factors = refl
+
+-- "A table of 1,001 whole numbers, one for each per mille" (W-210): how many, some of them, and none past the last
+table-of-factors :
+    length factorTable ∷ map (λ (c : ℕ). getD factorTable c 0) (0 ∷ 1 ∷ 619 ∷ 620 ∷ 621 ∷ 622 ∷ 700 ∷ 1000 ∷ 1001 ∷ [])
+    ≡ 1001 ∷ 0 ∷ 0 ∷ 0 ∷ 0 ∷ 6 ∷ 12 ∷ 457 ∷ 1519 ∷ 0 ∷ []
+unfolding factorOf values factorTable
+table-of-factors = refl
 
 -- "For c at most 620 the wait is 25,000": whatever the on-time, and "0 before any sample"
 calm-waits :
