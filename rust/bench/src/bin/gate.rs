@@ -193,3 +193,16 @@ fn main() {
     }
     println!();
 }
+
+#[cfg(test)]
+mod tests {
+    use super::*;
+
+    #[test]
+    fn sides_end_alike() {
+        for mix in &MIXES {
+            let profiles = mix.profiles.iter();
+            profiles.for_each(|&profile| ends_alike(start(mix, profile), &row(mix), mix.name));
+        }
+    }
+}

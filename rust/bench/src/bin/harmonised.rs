@@ -91,3 +91,16 @@ fn main() {
     }
     measure("sample, poll", start(&MIXES[0]), &sampled());
 }
+
+#[cfg(test)]
+mod tests {
+    use super::*;
+
+    #[test]
+    fn sides_end_alike() {
+        for mix in &MIXES {
+            ends_alike(start(mix), &polls(mix), mix.name);
+        }
+        ends_alike(start(&MIXES[0]), &sampled(), "sample, poll");
+    }
+}
