@@ -66,6 +66,8 @@ bench: $(ARCHIVES)
 	@echo
 	@$(CARGO_RUN) --package bench --bin sample
 	@echo
+	@$(CARGO_RUN) --package bench --bin harmonised
+	@echo
 	@$(CARGO_RUN) --package bench --bin record
 	@echo
 	@$(CARGO_RUN) --package bench --bin burst

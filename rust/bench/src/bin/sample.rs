@@ -15,6 +15,7 @@ use presscurlew::sys;
 const ROUNDS: usize = 13 * PLACES;
 const CALLS: usize = 1_000;
 const SAMPLES: usize = 64;
+const PROBES: [u32; 3] = [12_500, 1_000, 64];
 
 /// Samples to choose from, with the probes that each has and, for the calls by count, how many are busy.
 struct Samples {
@@ -161,31 +162,44 @@ fn samples(probes: u32) -> &'static Samples {
 /// The µs from one sample to the next.
 const STEP: u32 = 100_000;
 
-fn measure(profile: u32, samples: &'static Samples) {
-    let row: Vec<Call> = (0..CALLS as u32)
-        .map(|i| [i % SAMPLES as u32, 0, 0, 0, 0, (i + 1) * STEP])
-        .collect();
-    let start = Start {
+const SIDES: [Run<Start, End>; 6] = [
+    archive_by_words,
+    plain_by_words,
+    archive_by_count,
+    plain_by_count,
+    archive_record,
+    plain_record,
+];
+
+fn start(profile: u32, samples: &'static Samples) -> Start {
+    Start {
         archive: sys::presscurlew_make(profile, sys::DROP_OLDEST, 0).state,
         plain: State::new(profile, sys::DROP_OLDEST, 0),
         samples,
-    };
-    let sides: [Run<Start, End>; 6] = [
-        archive_by_words,
-        plain_by_words,
-        archive_by_count,
-        plain_by_count,
-        archive_record,
-        plain_record,
-    ];
-    let ends = sides.map(|run| run(start, &row));
+    }
+}
+
+fn row() -> Vec<Call> {
+    let calls = (0..CALLS as u32).map(|i| [i % SAMPLES as u32, 0, 0, 0, 0, (i + 1) * STEP]);
+    calls.collect()
+}
+
+/// A comparison of speed means something only between runs that end alike.
+fn ends_alike(start: Start, row: &[Call]) {
+    let ends = SIDES.map(|run| run(start, row));
+    let states = ends[..4].iter();
     assert!(
-        ends[..4].iter().all(|end| *end == ends[0]),
+        states.into_iter().all(|end| *end == ends[0]),
         "the states differ"
     );
     assert_eq!(ends[4], ends[5], "the records differ");
+}
+
+fn measure(profile: u32, samples: &'static Samples) {
+    let (start, row) = (start(profile, samples), row());
+    ends_alike(start, &row);
     let [words, plain, count, plain_count, record, plain_record] =
-        rounds(sides, start, &row, ROUNDS).map(median);
+        rounds(SIDES, start, &row, ROUNDS).map(median);
     let line = |name: &str, ours: f64, theirs: f64| {
         let probes = samples.probes;
         println!(
@@ -202,10 +216,22 @@ fn measure(profile: u32, samples: &'static Samples) {
 fn main() {
     println!("ns a call across C, median of {ROUNDS} rounds of {CALLS} calls each, in turn");
     println!("call                       probes  profile    Rattle  plain Rust   ratio");
-    for probes in [12_500, 1_000, 64] {
+    for probes in PROBES {
         let samples = samples(probes);
         for profile in [1, 3] {
             measure(profile, samples);
+        }
+    }
+}
+
+#[cfg(test)]
+mod tests {
+    use super::*;
+
+    #[test]
+    fn sides_end_alike() {
+        for probes in PROBES {
+            (1..=3).for_each(|profile| ends_alike(start(profile, samples(probes)), &row()));
         }
     }
 }
