@@ -36,8 +36,8 @@ roomChecks oldway ofPriority accepted =
 
 -- "then 4, 5, 6, 7, 8 as they apply"; 4 BAD-SAMPLE
 abbrev pub ownChecks : {h : Holding} → Status h → Call → List Check
-ownChecks v (words stamp ws) = check 4 (not (goodWords ws)) ∷ []
-ownChecks v (count stamp busy) = check 4 (badCount busy) ∷ []
+ownChecks v (words stamp probes ws) = check 4 (not (goodWords probes ws)) ∷ []
+ownChecks v (count stamp busy probes) = check 4 (badCount busy probes) ∷ []
 ownChecks {h} v (offer stamp o) =
     numberChecks (v .control .profile) o
     ++ roomChecks (v .oldway) (h .ofPriority (o .priority) (refreshed v stamp .waiting)) (v .counts .accepted)
@@ -59,8 +59,8 @@ checks v c = clockChecks (sound v) (v .clock) (stampOf c) (ownChecks v c)
 abbrev pub unlessRefused : {h : Holding} → (number : ℕ) → Status h → Result h → Result h
 unlessRefused number given done = cond (eqb number 0) done (result given (Refused number))
 
--- 1 BAD-PROFILE: "make: profile not 1 to 3"; "1 asks for the old way, 0 for the new, any other number is
--- refused with 1" (document 02, W-205)
+-- 1 BAD-PROFILE: "At making .. a profile outside 1 to 4 now gets number 1" (document 02, W-209); "1 asks for
+-- the old way, 0 for the new, any other number is refused with 1" (W-205)
 abbrev pub makeChecks : Making → List Check
 makeChecks m = check 1 (not (isProfile (m .profile))) ∷ check 1 (ltb 1 (m .oldway)) ∷ []
 

@@ -73,6 +73,13 @@ fn pass_four<A>(call: extern "C" fn(u32, u32, u32, u32) -> A, inputs: &[[u32; 4]
     }
 }
 
+fn pass_five<A>(call: extern "C" fn(u32, u32, u32, u32, u32) -> A, inputs: &[[u32; 5]]) {
+    let call = black_box(call);
+    for &[a, b, c, d, e] in inputs {
+        black_box(call(a, b, c, d, e));
+    }
+}
+
 fn wanted_level() {
     let inputs = inputs::wanted_level();
     let rattle = || pass_two(sys::presscurlew_wanted_level, &inputs);
@@ -94,17 +101,17 @@ fn duty_update() {
     compare("duty update", inputs.len(), &rattle, &plain);
 }
 
-fn wait() {
-    let inputs = inputs::wait();
-    let rattle = || pass_four(sys::presscurlew_wait, &inputs);
-    let plain = || pass_four(peers::wait, &inputs);
-    compare("wait", inputs.len(), &rattle, &plain);
+fn wait(name: &str, first: u32, last: u32) {
+    let inputs = inputs::wait(first, last);
+    let rattle = || pass_five(sys::presscurlew_wait, &inputs);
+    let plain = || pass_five(peers::wait, &inputs);
+    compare(name, inputs.len(), &rattle, &plain);
 }
 
 /// Prints what the loop and an empty call cost: a part of every time printed.
 fn overhead() {
-    let inputs = inputs::wait();
-    let empty = || pass_four(peers::nothing, &inputs);
+    let inputs = inputs::wait(1, 4);
+    let empty = || pass_five(peers::nothing, &inputs);
     let times = (0..ROUNDS).map(|_| round(inputs.len(), &empty)).collect();
     println!("loop and an empty call: {:.2} ns of each", median(times));
 }
@@ -118,7 +125,8 @@ fn main() {
     wanted_level();
     level_step();
     duty_update();
-    wait();
+    wait("wait, 1 to 3", 1, 3);
+    wait("wait, 4", 4, 4);
     overhead();
 }
 
@@ -141,9 +149,9 @@ mod tests {
             let expected = sys::presscurlew_duty_update(duty, smoothed, kept, new);
             assert_eq!(peers::duty_update(duty, smoothed, kept, new), expected);
         }
-        for [profile, level, duty, ontime] in inputs::wait() {
-            let expected = sys::presscurlew_wait(profile, level, duty, ontime);
-            assert_eq!(peers::wait(profile, level, duty, ontime), expected);
+        for [profile, level, duty, ontime, load] in inputs::wait(1, 4) {
+            let expected = sys::presscurlew_wait(profile, level, duty, ontime, load);
+            assert_eq!(peers::wait(profile, level, duty, ontime, load), expected);
         }
     }
 }

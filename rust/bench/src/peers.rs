@@ -92,18 +92,21 @@ pub extern "C" fn duty_update(duty: u32, smoothed: u32, kept: u32, new: u32) -> 
     }
 }
 
-/// The wait after an admission.
+/// The wait after an admission. Profile 4's factor is worked out each time.
 #[inline(never)]
-pub extern "C" fn wait(profile: u32, level: u32, duty: u32, ontime: u32) -> WaitAnswer {
+pub extern "C" fn wait(profile: u32, level: u32, duty: u32, ontime: u32, load: u32) -> WaitAnswer {
     let refused = |refusal| WaitAnswer { refusal, wait: 0 };
     let most_ontime = match profile {
         1 => 1_000,
         2 => 500,
-        3 => 4_000,
+        3 | 4 => 4_000,
         _ => return refused(BAD_PROFILE),
     };
     if level > TOP_LEVEL || !(LEAST_DUTY..=MOST_DUTY).contains(&duty) {
         return refused(OUT_OF_RANGE);
+    }
+    if load > FULL_LOAD {
+        return refused(BAD_LOAD);
     }
     if ontime == 0 || ontime > most_ontime {
         return refused(BAD_ON_TIME);
@@ -111,16 +114,20 @@ pub extern "C" fn wait(profile: u32, level: u32, duty: u32, ontime: u32) -> Wait
     let wait = match profile {
         1 => [100_000, 200_000, 400_000, 500_000, 1_000_000][level as usize],
         2 => [50_000, 100_000, 200_000, 250_000, 1_000_000][level as usize],
-        _ => (u64::from(ontime) * 1_000_000_000)
+        3 => (u64::from(ontime) * 1_000_000_000)
             .div_ceil(u64::from(duty))
             .clamp(25_000, 1_000_000) as u32,
+        _ => match load.div_ceil(1_000) {
+            0..=620 => 25_000,
+            c => ((3_999 - 2_480_000 / c) * ontime).clamp(25_000, 1_000_000),
+        },
     };
     WaitAnswer { refusal: 0, wait }
 }
 
 /// A call that does nothing.
 #[inline(never)]
-pub extern "C" fn nothing(_: u32, _: u32, _: u32, _: u32) -> WaitAnswer {
+pub extern "C" fn nothing(_: u32, _: u32, _: u32, _: u32, _: u32) -> WaitAnswer {
     WaitAnswer {
         refusal: 0,
         wait: 0,

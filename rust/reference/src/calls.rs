@@ -2,14 +2,15 @@
 
 use crate::state::Packet;
 
-/// "Refusal numbers": profile not 1 to 3. W-205: or an old way that is neither
-/// yes nor no.
+/// "Refusal numbers" and W-209: profile not 1 to 4. W-205: or an old way that is
+/// neither yes nor no.
 pub const BAD_PROFILE: u32 = 1;
 /// "Refusal numbers": step of 2,147,483,648 or more.
 pub const CLOCK_BACK: u32 = 2;
 /// "Refusal numbers": running time would pass 10^15.
 pub const CLOCK_END: u32 = 3;
-/// "Refusal numbers": not a sample.
+/// "Refusal numbers": not a sample. W-208: a probe count outside 1 to 12,500,
+/// a wrong number of words, a stray bit, or busy above probes.
 pub const BAD_SAMPLE: u32 = 4;
 /// "Refusal numbers": priority above 3.
 pub const BAD_PRIORITY: u32 = 5;
@@ -36,7 +37,9 @@ pub const TORN_LOG: u32 = 13;
 pub enum Call {
     /// A sample by words.
     SampleWords {
-        /// The words lent; a good sample has 16.
+        /// The number of probes.
+        probes: u32,
+        /// The words lent; a good sample has just enough for its probes.
         words: Vec<u64>,
         /// The radio's count.
         stamp: u32,
@@ -45,6 +48,8 @@ pub enum Call {
     SampleCount {
         /// The number of busy probes.
         busy: u32,
+        /// The number of probes.
+        probes: u32,
         /// The radio's count.
         stamp: u32,
     },

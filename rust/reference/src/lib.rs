@@ -1,7 +1,7 @@
 //! The second, independent program of the gate.
 //!
 //! It is document 01 written out plainly, with requests W-201, W-202 and W-204
-//! to W-207 of document 02, to be read beside those papers and run beside the
+//! to W-209 of document 02, to be read beside those papers and run beside the
 //! product. It shares no code and no table with the product.
 //!
 //! - [`rules`]: the rules on plain numbers, and each profile's constants
