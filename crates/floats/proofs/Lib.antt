@@ -1,0 +1,2 @@
+-- The duty's limits, and worked examples.
+pub mod Limits
