@@ -1,2 +1,3 @@
 -- The duty's limits, and worked examples.
 pub mod Limits
+pub mod Worked

@@ -4,7 +4,7 @@ use mathlib.Core.Bool.{true, false}
 use native.Mathlib.Omega.{arith}
 use lib.Ieee.{Float, ofBits, round}
 use borrow.Author.Tests.{not-true, not-false}
-use Rattle.floats.specs.Update.{Arguments, accepted, nextSmoothed, dutyOf, floatAnswer, isDuty}
+use Rattle.floats.specs.Update.{Arguments, accepted, nextSmoothed, dutyOf, badFloat, floatAnswer, isDuty}
 use Rattle.floats.proofs.Limits.{duty-within}
 use borrow.Author.Needs.{needs}
 use Rattle.floats.proofs.presscurlew_float_update.Statement.{statement}
@@ -22,7 +22,8 @@ returns : tie.Need-returns
 unfolding floatAnswer ofBits round
 returns c =
     let refused : accepted (given (c .before)) ≡ false = sym (c .before .is-accepted .ensures) ∙ not-true _ (c .if1 .taken) in
-    (simp refused, record { within = λ e. absurd (omega arith) })
+    let answer : floatAnswer (given (c .before)) ≡ badFloat = simp refused in
+    (sym answer, record { within = λ e. absurd (omega arith) })
 
 smooth-requires : tie.Need-smooth-requires
 smooth-requires c κs = search needs
