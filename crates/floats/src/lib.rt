@@ -53,16 +53,19 @@ fn smooth(smoothed: f64, kept: f64, new: f64) -> f64
     old + fresh
 }
 
-// What is added to the duty at a smoothed load.
+// What is added to the duty at a smoothed load. Both cases are worked out before one is picked: a branch is guessed wrong
+// where loads go from one side of the target to the other.
 fn offset(smoothed: f64) -> f64
     ensures { λ r. ⌜ r ≡ offsetOf smoothed ⌝ }
 {
     let difference = 0.68 - smoothed;
     let product = difference * 0.0012;
+    let up = least_of(product, 0.0005);
+    let down = most_of(product, -0.00025);
     if 0.0 < difference {
-        return least_of(product, 0.0005);
+        return up;
     }
-    most_of(product, -0.00025)
+    down
 }
 
 // x held within the limits of the duty.

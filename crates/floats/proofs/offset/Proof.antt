@@ -1,4 +1,4 @@
--- By the sign of the difference, either way one of the definition's two cases; the constants are the nearest doubles, by
+-- By the sign of the difference, one of the definition's two cases is picked; the constants are the nearest doubles, by
 -- computing.
 use mathlib.Core.Path.{_≡_, _∙_}
 use mathlib.Core.Bool.{true, false}
@@ -18,24 +18,26 @@ product smoothed = times (difference smoothed) gain
 least-of-requires : tie.Need-least-of-requires
 least-of-requires c κs = search needs
 
+most-of-requires : tie.Need-most-of-requires
+most-of-requires c κs = search needs
+
 returns : tie.Need-returns
 unfolding offsetOf ofBits round neg
 returns c =
-    let s = c .before .before .args .smoothed in
-    let above : lt zero64 (difference s) ≡ true = c .before .if1 .taken in
-    let e : c .least-of .result ≡ smaller (product s) mostUp = c .least-of .ensures in
-    e ∙ simp above
-
-most-of-requires : tie.Need-most-of-requires
-most-of-requires c κs = search needs
+    let l = c .before .before in
+    let s = l .before .args .smoothed in
+    let above : lt zero64 (difference s) ≡ true = c .if1 .taken in
+    let up : l .least-of .result ≡ smaller (product s) mostUp = l .least-of .ensures in
+    up ∙ simp above
 
 returns-2 : tie.Need-returns-2
 unfolding offsetOf ofBits round neg
 returns-2 c =
-    let s = c .before .before .args .smoothed in
-    let not-above : lt zero64 (difference s) ≡ false = c .before .if1 .left in
-    let e : c .most-of .result ≡ larger (product s) mostDown = c .most-of .ensures in
-    e ∙ simp not-above
+    let m = c .before in
+    let s = m .before .before .args .smoothed in
+    let not-above : lt zero64 (difference s) ≡ false = c .if1 .left in
+    let down : m .most-of .result ≡ larger (product s) mostDown = m .most-of .ensures in
+    down ∙ simp not-above
 
 pub offset-spec : {M : Type 1} → statement M
-offset-spec = tie.close (tie.spec least-of-requires returns most-of-requires returns-2)
+offset-spec = tie.close (tie.spec least-of-requires most-of-requires returns returns-2)
