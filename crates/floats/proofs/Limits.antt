@@ -2,7 +2,8 @@
 use mathlib.Core.Path.{_≡_, refl, sym, _∙_}
 use mathlib.Core.Bool.{Bool, true, false, cond}
 use lib.Ieee.{Float, lt, eq, le, round}
-use Rattle.floats.specs.Update.{leastDuty, mostDuty, held, isDuty, dutyOf}
+use Rattle.floats.specs.Doubles.{heldWithin}
+use Rattle.floats.specs.Update.{leastDuty, mostDuty, isDuty, dutyOf}
 
 -- either way of a test
 split : {A : Type 0} (b : Bool) → (b ≡ true → A) → (b ≡ false → A) → A
@@ -26,9 +27,9 @@ least-below-most : lt leastDuty mostDuty ≡ true
 unfolding round lt
 least-below-most = refl
 
-pub held-within : (x : Float) → isDuty (held x) ≡ true
-unfolding held isDuty
-held-within x =
+held-is-duty : (x : Float) → isDuty (heldWithin leastDuty mostDuty x) ≡ true
+unfolding isDuty
+held-is-duty x =
     split (lt leastDuty x)
     (λ above. split (lt x mostDuty)
     (λ below. simp (above, below, at-most leastDuty x above, at-most x mostDuty below))
@@ -37,4 +38,4 @@ held-within x =
 
 pub duty-within : (duty smoothed : Float) → isDuty (dutyOf duty smoothed) ≡ true
 unfolding dutyOf
-duty-within duty smoothed = held-within _
+duty-within duty smoothed = held-is-duty _

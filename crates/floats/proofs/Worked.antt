@@ -6,7 +6,7 @@ use mathlib.Core.List.{List, [], _∷_, map}
 use lib.Ieee.{Float, binary64, ofBits, toBits, round, add, sub, mul, div, neg, lt, eq, le}
 use Rattle.floats.specs.declared.FloatAnswer.{FloatAnswer}
 use Rattle.floats.specs.Doubles.{nearest, minus}
-use Rattle.floats.specs.Update.{Arguments, one, fading, smoothedOf, offsetOf, held, dutyOf, isLoad, isDuty, floatAnswer}
+use Rattle.floats.specs.Update.{Arguments, one, fading, smoothedOf, offsetOf, dutyOf, isLoad, isDuty, floatAnswer}
 
 -- a double by its bits
 abbrev double : ℕ → Float
@@ -20,7 +20,7 @@ pub record Bits : Type 0 where
 
 -- an update by bits: duty, smoothed, kept, new
 update : (duty smoothed kept new : ℕ) → Bits
-unfolding ofBits toBits round add sub mul div neg lt eq le smoothedOf offsetOf held dutyOf isLoad isDuty floatAnswer
+unfolding ofBits toBits round add sub mul div neg lt eq le smoothedOf offsetOf dutyOf isLoad isDuty floatAnswer
 update duty smoothed kept new =
     let a : Arguments = record { duty = double duty; smoothed = double smoothed; kept = double kept; new = double new } in
     let r : FloatAnswer = floatAnswer a in

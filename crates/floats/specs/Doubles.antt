@@ -29,6 +29,10 @@ smaller x y = cond (lt x y) x y
 abbrev pub larger : Float → Float → Float
 larger x y = cond (lt y x) x y
 
+-- "held within": raised to the lower limit, then lowered to the upper one
+abbrev pub heldWithin : (low high x : Float) → Float
+heldWithin low high x = smaller (larger x low) high
+
 -- "compare as": low ≤ x and x ≤ high, as doubles compare. Negative zero is 0.0 there, and "not-a-number never does"
 abbrev pub comparesAs : (low high x : Float) → Bool
 comparesAs low high x = le low x && le x high

@@ -4,7 +4,7 @@ use mathlib.Core.Path.{_≡_}
 use mathlib.Core.Bool.{Bool, true, false, cond, _&&_}
 use lib.Ieee.{Float, neg, lt}
 use Rattle.floats.specs.declared.FloatAnswer.{FloatAnswer}
-use Rattle.floats.specs.Doubles.{nearest, plus, minus, times, over, smaller, larger, comparesAs}
+use Rattle.floats.specs.Doubles.{nearest, plus, minus, times, over, smaller, larger, heldWithin, comparesAs}
 
 -- "Constants are the nearest doubles." 0.0, which is +0.0, and 0.5, 1.0 and 2.0 are doubles themselves.
 
@@ -64,16 +64,12 @@ offsetOf smoothed =
     let product = times difference gain in
     cond (lt zero64 difference) (smaller product mostUp) (larger product mostDown)
 
--- "held within 0.0006 and 0.03"
-unfoldable pub held : Float → Float
-held x = smaller (larger x leastDuty) mostDuty
-
 -- "(1.0 − 0.016) × duty; the offset added; held within 0.0006 and 0.03"
 unfoldable pub dutyOf : (duty smoothed : Float) → Float
 dutyOf duty smoothed =
     let faded = times (minus one fading) duty in
     let moved = plus faded (offsetOf smoothed) in
-    held moved
+    heldWithin leastDuty mostDuty moved
 
 -- the numbers of an update (reading 20: "in the order duty, smoothed, kept, new")
 pub record Arguments : Type 0 where

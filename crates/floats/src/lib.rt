@@ -2,8 +2,8 @@
 // once. For the simulation group, and no part of the gate.
 ghost use mathlib.Core.Path.{_≡_};
 ghost use mathlib.Core.Bool.{true};
-ghost use Rattle.floats.specs.Doubles.{smaller, larger, comparesAs};
-ghost use Rattle.floats.specs.Update.{smoothedOf, offsetOf, held, dutyOf, isLoad, isDuty};
+ghost use Rattle.floats.specs.Doubles.{smaller, larger, heldWithin, comparesAs};
+ghost use Rattle.floats.specs.Update.{smoothedOf, offsetOf, dutyOf, isLoad, isDuty};
 ghost use Rattle.floats.specs.Update.{accepted, floatAnswer, WithinLimits};
 
 // The refusal number.
@@ -53,27 +53,23 @@ fn smooth(smoothed: f64, kept: f64, new: f64) -> f64
     old + fresh
 }
 
-// What is added to the duty at a smoothed load. Both cases are worked out before one is picked: a branch is guessed wrong
-// where loads go from one side of the target to the other.
+// x held within two limits.
+fn hold(x: f64, low: f64, high: f64) -> f64
+    ensures { λ r. ⌜ r ≡ heldWithin low high x ⌝ }
+{
+    let raised = most_of(x, low);
+    least_of(raised, high)
+}
+
+// What is added to the duty at a smoothed load. The product has the sign of the difference, so that only the limit on
+// its side can hold it: no branch is needed, which would be guessed wrong where loads go from one side of the target to
+// the other.
 fn offset(smoothed: f64) -> f64
     ensures { λ r. ⌜ r ≡ offsetOf smoothed ⌝ }
 {
     let difference = 0.68 - smoothed;
     let product = difference * 0.0012;
-    let up = least_of(product, 0.0005);
-    let down = most_of(product, -0.00025);
-    if 0.0 < difference {
-        return up;
-    }
-    down
-}
-
-// x held within the limits of the duty.
-fn hold(x: f64) -> f64
-    ensures { λ r. ⌜ r ≡ held x ⌝ }
-{
-    let raised = most_of(x, LEAST_DUTY);
-    least_of(raised, MOST_DUTY)
+    hold(product, -0.00025, 0.0005)
 }
 
 // The duty after an update, at the smoothed load after it.
@@ -82,7 +78,7 @@ fn next_duty(duty: f64, smoothed: f64) -> f64
 {
     let faded = (1.0 - 0.016) * duty;
     let moved = faded + offset(smoothed);
-    hold(moved)
+    hold(moved, LEAST_DUTY, MOST_DUTY)
 }
 
 // Whether x compares as low to high. Not-a-number compares as nothing.

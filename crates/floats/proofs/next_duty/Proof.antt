@@ -1,8 +1,8 @@
 -- The sum that is held is the definition's; the constants are the nearest doubles, by computing.
 use mathlib.Core.Path.{_≡_, _∙_, ap}
 use lib.Ieee.{Float, ofBits, round}
-use Rattle.floats.specs.Doubles.{plus, minus, times}
-use Rattle.floats.specs.Update.{one, fading, offsetOf, held, dutyOf}
+use Rattle.floats.specs.Doubles.{plus, minus, times, heldWithin}
+use Rattle.floats.specs.Update.{one, fading, leastDuty, mostDuty, offsetOf, dutyOf}
 use borrow.Author.Needs.{needs}
 use Rattle.floats.proofs.next_duty.Statement.{statement}
 use Rattle.floats.proofs.next_duty.Tie as tie
@@ -22,8 +22,8 @@ returns c =
     let o = c .before .offset in
     let a = c .before .before .args in
     let added : o .result ≡ offsetOf (a .smoothed) = o .ensures in
-    let e : c .hold .result ≡ held (plus (faded (a .duty)) (o .result)) = c .hold .ensures in
-    e ∙ ap (λ (y : Float). held (plus (faded (a .duty)) y)) added
+    let e : c .hold .result ≡ heldWithin leastDuty mostDuty (plus (faded (a .duty)) (o .result)) = c .hold .ensures in
+    e ∙ ap (λ (y : Float). heldWithin leastDuty mostDuty (plus (faded (a .duty)) y)) added
 
 pub next-duty-spec : {M : Type 1} → statement M
 next-duty-spec = tie.close (tie.spec offset-requires hold-requires returns)
