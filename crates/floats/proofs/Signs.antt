@@ -143,7 +143,8 @@ both n d u i w j (fin false zero e) =
     let none : 0 * up e * 1 ≡ 0 = simp (zero-mul) in
     let test : ltb (0 * down e) (0 * up e * 1) ≡ false = le-ltb (0 * down e) (0 * up e * 1) (omega (arith, none)) in
     let s : Signed false p = round-signed binary64 false (0 * up e * (suc n * up d)) (down e * down d) in
-    let z : smaller p (fin false (suc u) i) ≡ p = zero-under-up u i (down e * down d) p (mul-pos (down-pos e) (down-pos d)) (times-zero n d e) in
+    let den : 0 < down e * down d = mul-pos (down-pos e) (down-pos d) in
+    let z : smaller p (fin false (suc u) i) ≡ p = zero-under-up u i (down e * down d) p den (times-zero n d e) in
     held-high u i w j p s ∙ z ∙ sym (over-down w j p s) ∙ simp test
 both n d u i w j (fin false (suc m) e) =
     let p = times (fin false (suc m) e) (fin false (suc n) d) in

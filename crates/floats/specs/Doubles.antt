@@ -7,8 +7,8 @@ use lib.Ieee.{Float, binary64, round, add, sub, mul, div, lt, le}
 abbrev pub nearest : (a b : ℕ) → Float
 nearest a b = round binary64 false a b
 
--- "each operation rounded once": the exact sum, difference, product or quotient of two doubles, rounded to the
--- nearest double; of two that are as near, to the one whose last bit is 0
+-- "each operation rounded once": the exact sum, difference, product or quotient, rounded to the nearest
+-- double; of two that are as near, to the one whose last bit is 0
 abbrev pub plus : Float → Float → Float
 plus x y = add binary64 x y
 
@@ -33,6 +33,7 @@ larger x y = cond (lt y x) x y
 abbrev pub heldWithin : (low high x : Float) → Float
 heldWithin low high x = smaller (larger x low) high
 
--- "compare as": low ≤ x and x ≤ high, as doubles compare. Negative zero is 0.0 there, and "not-a-number never does"
+-- "compare as": low ≤ x and x ≤ high, as doubles compare. Negative zero equals 0.0 there, and "not-a-number
+-- never does"
 abbrev pub comparesAs : (low high x : Float) → Bool
 comparesAs low high x = le low x && le x high

@@ -1,10 +1,11 @@
 -- One update in f64 (document 02, W-211: "Give them one update in f64, in this order, each operation rounded
 -- once").
 use mathlib.Core.Path.{_≡_}
-use mathlib.Core.Bool.{Bool, true, false, cond, _&&_}
+use mathlib.Core.Bool.{Bool, true, cond, _&&_}
 use lib.Ieee.{Float, neg, lt}
 use Rattle.floats.specs.declared.FloatAnswer.{FloatAnswer}
-use Rattle.floats.specs.Doubles.{nearest, plus, minus, times, over, smaller, larger, heldWithin, comparesAs}
+use Rattle.floats.specs.Doubles.{nearest, plus, minus, times, over}
+use Rattle.floats.specs.Doubles.{smaller, larger, heldWithin, comparesAs}
 
 -- "Constants are the nearest doubles." 0.0, which is +0.0, and 0.5, 1.0 and 2.0 are doubles themselves.
 
@@ -71,7 +72,7 @@ dutyOf duty smoothed =
     let moved = plus faded (offsetOf smoothed) in
     heldWithin leastDuty mostDuty moved
 
--- the numbers of an update (reading 20: "in the order duty, smoothed, kept, new")
+-- the numbers of an update, in the order of the call
 pub record Arguments : Type 0 where
   pub duty : Float
   pub smoothed : Float

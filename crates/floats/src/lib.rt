@@ -1,5 +1,5 @@
-// The bench's floating update (document 02, W-211): one update in f64, a fixed sequence of operations, each rounded
-// once. For the simulation group, and no part of the gate.
+// The bench's floating update (document 02, W-211): one update in f64, a fixed sequence of operations, each
+// rounded once. It is for the simulation group, and no part of the gate.
 ghost use mathlib.Core.Path.{_≡_};
 ghost use mathlib.Core.Bool.{true};
 ghost use Rattle.floats.specs.Doubles.{smaller, larger, heldWithin, comparesAs};
@@ -61,9 +61,9 @@ fn hold(x: f64, low: f64, high: f64) -> f64
     least_of(raised, high)
 }
 
-// What is added to the duty at a smoothed load. The product has the sign of the difference, so that only the limit on
-// its side can hold it: no branch is needed, which would be guessed wrong where loads go from one side of the target to
-// the other.
+// What is added to the duty at a smoothed load. The product has the sign of the difference, so that only the
+// limit on its side can hold it, and both may be applied: a branch on the sign is guessed wrong where loads
+// go from one side of the target to the other.
 fn offset(smoothed: f64) -> f64
     ensures { λ r. ⌜ r ≡ offsetOf smoothed ⌝ }
 {
@@ -85,7 +85,7 @@ fn next_duty(duty: f64, smoothed: f64) -> f64
 fn compares_as(low: f64, high: f64, x: f64) -> bool
     ensures { λ r. ⌜ r ≡ comparesAs low high x ⌝ }
 {
-    low <= x && x <= high
+    (low <= x) & (x <= high)
 }
 
 fn is_load(x: f64) -> bool
@@ -100,21 +100,12 @@ fn is_duty(x: f64) -> bool
     compares_as(LEAST_DUTY, MOST_DUTY, x)
 }
 
-// Whether nothing is refused.
+// Whether nothing is refused. All tests are made, with no branch between them: several are then made at once.
 fn is_accepted(duty: f64, smoothed: f64, kept: f64, new: f64) -> bool
     ensures { λ r. ⌜ r ≡ accepted
         (record { duty = duty; smoothed = smoothed; kept = kept; new = new }) ⌝ }
 {
-    if !is_duty(duty) {
-        return false;
-    }
-    if !is_load(smoothed) {
-        return false;
-    }
-    if !is_load(kept) {
-        return false;
-    }
-    is_load(new)
+    is_duty(duty) & is_load(smoothed) & is_load(kept) & is_load(new)
 }
 
 // One update: the smoothed load and the duty after a pair of samples.
