@@ -1,6 +1,6 @@
 # Presscurlew: what can be run. Everything that is made lies below target/.
 
-ARCHIVES := $(patsubst %,target/staticlib/lib%.a,cstack host bursts loops)
+ARCHIVES := $(patsubst %,target/staticlib/lib%.a,cstack floats host bursts loops)
 PROVED := crates.txt $(shell find crates -name '*.rt' -o -name '*.antt')
 
 help:

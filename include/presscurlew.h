@@ -1,10 +1,11 @@
 /*
  * Presscurlew: a transmit gate for a shared 5.9 GHz radio channel, for radio stacks in C and C++.
  *
- * Three archives, each for itself:
+ * Four archives, each for itself:
  *   the gate    make, sample, offer and poll on a state that the host keeps, and their log  link libhost.a
  *   the burst   many offers on such a state in one call                                     link libbursts.a
  *   the rules   the gate's rules on plain numbers, for a stack that has a gate of its own   link libcstack.a
+ *   in doubles  profile 3's update in floating point, for simulations                       link libfloats.a
  * They stand in target/staticlib (x86-64, System V calling convention).
  *
  * Each call is proved to answer what its comment says, for any numbers and any state at all: nothing is
@@ -23,6 +24,7 @@
  *   on-time   time on air of one packet, microseconds         1 to the longest that the profile allows
  *   lifetime  how long a packet may wait, microseconds        1 to 60,000,000
  *   priority  0 (highest) to 3
+ * The floating update alone takes load and duty as fractions of 1.
  *
  * Profiles                                               on-time allowed
  *   1   reactive, ETSI TS 102 687 V1.2.1, Table A.1      1 to 1,000
@@ -456,13 +458,14 @@ uint32_t presscurlew_write_poll(uint32_t stamp, uint8_t *log, size_t bytes, size
  *
  * The refusal numbers of the rules. Every answer's first field has one: 0, PRESSCURLEW_BAD_PROFILE,
  * PRESSCURLEW_BAD_ON_TIME or one of these. 4 and 9 mean something else here than in the gate. They are tested
- * in the order 1, 9, 4, 6, as they apply, and the first that holds is the answer. With a refusal, the
- * answer's other fields are 0.
+ * in the order 1, 9, 4, 6, as they apply, and the first that holds is the answer; the floating update has 14
+ * and no other. With a refusal, the answer's other fields are 0.
  */
 enum presscurlew_rule_refusal {
-    PRESSCURLEW_ACCEPTED = 0,    /* no refusal: the other fields are the answer */
-    PRESSCURLEW_BAD_LOAD = 4,    /* a load is above 1,000,000 */
-    PRESSCURLEW_OUT_OF_RANGE = 9 /* the level is above 4, or the duty is not 600,000 to 30,000,000 */
+    PRESSCURLEW_ACCEPTED = 0,     /* no refusal: the other fields are the answer */
+    PRESSCURLEW_BAD_LOAD = 4,     /* a load is above 1,000,000 */
+    PRESSCURLEW_OUT_OF_RANGE = 9, /* the level is above 4, or the duty is not 600,000 to 30,000,000 */
+    PRESSCURLEW_BAD_FLOAT = 14    /* presscurlew_float_update alone: a number is out of its limits, or not a number */
 };
 
 /* What presscurlew_wanted_level and presscurlew_level_step answer. */
@@ -540,6 +543,43 @@ presscurlew_duty_answer presscurlew_duty_update(uint32_t duty, uint32_t smoothed
  */
 presscurlew_wait_answer presscurlew_wait(uint32_t profile, uint32_t level, uint32_t duty, uint32_t ontime,
                                          uint32_t load);
+
+/* What presscurlew_float_update answers. With a refusal, both numbers are +0.0. */
+typedef struct presscurlew_float_answer {
+    uint32_t refusal;
+    double smoothed; /* share of time that the channel is busy, 0.0 to 1.0 */
+    double duty;     /* share of time on air, 0.0006 to 0.03 */
+} presscurlew_float_answer;
+
+/*
+ * Profile 3's update in floating point, for simulations: the gate itself never uses it. `kept` is the load of the first
+ * sample of a pair and `new_load` that of the second, as fractions of 1. Keep the answer's smoothed load and duty for
+ * the next call; to start as a fresh gate does, take duty 0.0006 and smoothed load 0.0.
+ *
+ * The numbers handed back are, bit for bit, those of this sequence in IEEE 754's binary64, each operation rounded
+ * once, to nearest with ties to even, and each constant the double nearest to what is written:
+ *
+ *   a = 0.5 * smoothed
+ *   b = kept + new_load
+ *   c = b / 2.0
+ *   d = 0.5 * c
+ *   smoothed' = a + d
+ *   e = 0.68 - smoothed'
+ *   f = e * 0.0012
+ *   offset = e > 0.0 ? the smaller of f and 0.0005 : the larger of f and -0.00025
+ *   g = (1.0 - 0.016) * duty
+ *   h = g + offset
+ *   duty' = h, held within 0.0006 and 0.03
+ *
+ * Nothing is fused and nothing kept in more digits. A simulation that wants the same bits has to be compiled so, too:
+ * with GCC -ffp-contract=off, and without -ffast-math. The caller's rounding mode is to-nearest, as a C program starts,
+ * and subnormal numbers are not flushed to zero. Where nothing is refused, the answer's duty is within its two limits.
+ * That the numbers come near those of presscurlew_duty_update is not claimed.
+ *
+ * Refusals: 14 if smoothed, kept or new_load does not compare as 0.0 to 1.0, or duty not as 0.0006 to 0.03.
+ * Not-a-number never does; negative zero compares as 0.0, and goes through as it is.
+ */
+presscurlew_float_answer presscurlew_float_update(double duty, double smoothed, double kept, double new_load);
 
 #ifdef __cplusplus
 }

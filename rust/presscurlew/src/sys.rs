@@ -8,7 +8,8 @@
 //! The writers ([`write_make`] to [`write_poll`]) write a call's record for the log, and leave the call itself to the
 //! host; [`crate::Recorder`] does both.
 //!
-//! The rules' answers have their refusal number first, 0 for none. A refusal's other numbers are 0.
+//! The rules' answers, and that of the floating update, have their refusal number first, 0 for none. A refusal's other
+//! numbers are 0.
 //!
 //! ```
 //! use presscurlew::sys;
@@ -58,7 +59,19 @@ pub struct WaitAnswer {
     pub wait: u32,
 }
 
-// Safe to call: the archive's functions answer any numbers at all, and touch no memory of the caller's.
+/// What the floating update answers.
+#[repr(C)]
+#[derive(Clone, Copy, Debug, PartialEq)]
+pub struct FloatAnswer {
+    /// 0, or 14, the number of the refusal.
+    pub refusal: u32,
+    /// The smoothed load after the update; +0.0 with a refusal.
+    pub smoothed: f64,
+    /// The duty after the update; +0.0 with a refusal.
+    pub duty: f64,
+}
+
+// Safe to call: the archives' functions answer any numbers at all, and touch no memory of the caller's.
 #[allow(unsafe_code)]
 unsafe extern "C" {
     /// The level that a load wants, in profile 1 or 2.
@@ -84,6 +97,14 @@ unsafe extern "C" {
         ontime: u32,
         load: u32,
     ) -> WaitAnswer;
+
+    /// Profile 3's smoothed load and duty after a pair of samples, in f64.
+    pub safe fn presscurlew_float_update(
+        duty: f64,
+        smoothed: f64,
+        kept: f64,
+        new: f64,
+    ) -> FloatAnswer;
 }
 
 /// A packet that waits. An unused slot is all zero.

@@ -31,6 +31,9 @@ pub const SPENT: u32 = 11;
 pub const NO_ROOM: u32 = 12;
 /// W-204: record bytes that are not a multiple of 16.
 pub const TORN_LOG: u32 = 13;
+/// W-211: a load that does not compare as 0.0 to 1.0, or a duty that does not as
+/// 0.0006 to 0.03.
+pub const BAD_FLOAT: u32 = 14;
 
 /// A call on the state: everything but make.
 #[derive(Clone, Debug, PartialEq, Eq)]
