@@ -42,8 +42,8 @@ noControl = controlOf 0 noTuning
 unfoldable pub pairingSound : ℕ → Tuning → Bool
 pairingSound profile t = cond (eqb (t .pairing) 1) (eqb profile 3) (eqb (t .kept) 0)
 
--- the latest load is kept in profile 4, whose wait goes by it; elsewhere it is unused, and "everything unused
--- is zero"
+-- "loads at most 1,000,000" in profile 4, whose wait goes by the latest load; zero elsewhere, as "what a
+-- later request adds for profiles other than the state's"
 unfoldable pub latestSound : (profile latest : ℕ) → Bool
 latestSound profile latest = cond (eqb profile 4) (leb latest fullLoad) (eqb latest 0)
 

@@ -1,6 +1,6 @@
--- "gates with the table and with the formula answer alike on every input" (document 02, W-210). The gate of
--- Gate works the factor of profile 4 out by its formula. Here is the one that reads it from the table; the
--- wait is asked for by a poll alone.
+-- "gates with the table and with the formula answer alike on every input" (document 02, W-210). The gate in
+-- Gate works profile 4's factor out by the formula. Here is one that reads it from the table. A poll alone
+-- asks for the wait, so the other calls and make are the same.
 use Prim.Native.Nat.{ℕ, _+_, _-_, max}
 use mathlib.Core.Path.{_≡_}
 use mathlib.Core.Bool.{Bool, true, cond, not, _&&_}
