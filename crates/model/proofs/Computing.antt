@@ -2,7 +2,7 @@
 use Rattle.rules.specs.Profiles.{within, reactiveOf, mostOntime, ontimeAllowed}
 use Rattle.rules.specs.Clock.{stepOf, goesBack, passesEnd}
 use Rattle.rules.specs.Refusals.{firstOf}
-use Rattle.rules.specs.Samples.{probe, busyOf, goodWords, badCount, loadOf}
+use Rattle.rules.specs.Samples.{goodProbes, probe, busyOf, noStray, goodWords, badCount, loadOf}
 use Rattle.rules.specs.Levels.{wantedBy, towards, waitBy}
 use Rattle.rules.specs.Duty.{smoothedOf, offsetOf, dutyOf}
 use Rattle.rules.specs.Wait.{adaptiveWait, startOf}
@@ -23,7 +23,7 @@ unfolding within reactiveOf mostOntime ontimeAllowed stepOf goesBack passesEnd f
 of-numbers = Unit {0}
 
 unfoldable pub of-samples : Type 0
-unfolding of-numbers probe busyOf goodWords badCount loadOf wantedBy towards smoothedOf offsetOf dutyOf sampled
+unfolding of-numbers goodProbes probe busyOf noStray goodWords badCount loadOf wantedBy towards smoothedOf offsetOf dutyOf sampled
 of-samples = Unit {0}
 
 unfoldable pub of-waits : Type 0

@@ -76,8 +76,8 @@ module _ (l : Entry) (zero : l .packet .priority ≡ 0) where
   not-by-call : (j : Journal) (c : Call) (a : Answer) → NotDisplacedYet l j
       → (Waits l j → FewAfter l (recorded j c a)) → All DisplacedByTheFifth (recorded j c a .departures)
       → NotDisplacedYet l (recorded j c a)
-  not-by-call j (words stamp ws) a h few by = h
-  not-by-call j (count stamp busy) a h few by = h
+  not-by-call j (words stamp probes ws) a h few by = h
+  not-by-call j (count stamp busy probes) a h few by = h
   not-by-call j (offer stamp o) a h few by =
       not-spilled (atPoll j stamp) (arriving (turned j stamp) o) (not-struck l (turned j stamp) h)
       (λ w. few (was-there _ l (j .columns .c0) w .0)) by

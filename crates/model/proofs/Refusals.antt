@@ -28,8 +28,8 @@ polled-accepts v (chosen p left) = on-cond Accepts (maySend v p) (λ e. refl) (�
 
 pub effect-accepts : {h : Holding} (v : Status h) (c : Call) → isRefused (effect v c .answer) ≡ false
 unfolding effect
-effect-accepts v (words stamp ws) = refl
-effect-accepts v (count stamp busy) = refl
+effect-accepts v (words stamp probes ws) = refl
+effect-accepts v (count stamp busy probes) = refl
 effect-accepts v (offer stamp o) = refl
 effect-accepts {h} v (poll stamp) = polled-accepts (refreshed v stamp) (h .next (refreshed v stamp .waiting))
 
@@ -43,8 +43,8 @@ refusals-change-nothing {h} v c =
 -- no check has the number 0
 pub checks-numbered : {h : Holding} (v : Status h) (c : Call) → Numbered (checks v c)
 unfolding checks
-checks-numbered v (words stamp ws) = omega arith
-checks-numbered v (count stamp busy) = omega arith
+checks-numbered v (words stamp probes ws) = omega arith
+checks-numbered v (count stamp busy probes) = omega arith
 checks-numbered v (offer stamp o) = omega arith
 checks-numbered v (poll stamp) = omega arith
 

@@ -60,7 +60,7 @@ unfolding of-runs made
 levelAfter cs = viewAfter (made 1) cs .control .tuning .level
 
 full : Call
-full = count 0 1000
+full = count 0 1000 1000
 
 four-samples :
     map levelAfter

@@ -398,8 +398,8 @@ offers-written = refl
 refused-unfed :
     book
     (fiveOffers
-    ++ (words 9 [], Refused 4)
-    ∷ (count 9 1001, Refused 4)
+    ++ (words 9 1000 [], Refused 4)
+    ∷ (count 9 1001 1000, Refused 4)
     ∷ (offering 30 6 0 1 1, Refused 8)
     ∷ (poll 4, Refused 2)
     ∷ [])
@@ -410,7 +410,7 @@ refused-unfed = refl
 -- "the step from the book's stamp to the call's is added to the time, and the call's stamp kept. A sample does no more.": at 98
 -- all are past their lifetimes
 sample-turns :
-    map (λ (e : Call × Answer). book (fiveOffers ++ e ∷ [])) ((words 103 [], Taken) ∷ (count 103 7, Taken) ∷ [])
+    map (λ (e : Call × Answer). book (fiveOffers ++ e ∷ [])) ((words 103 1000 [], Taken) ∷ (count 103 7 1000, Taken) ∷ [])
     ≡ map (λ (n : ℕ). page n 103 fivePackets 0 fiveEntries [] []) (98 ∷ 98 ∷ [])
 unfolding book
 sample-turns = refl
@@ -587,7 +587,7 @@ polled-every-10 :
     PolledEvery 10 alone 1 onlyOne
     ((poll 16, Closed 9)
     ∷ (poll 2, Refused 2)
-    ∷ (count 20 0, Taken)
+    ∷ (count 20 0 1000, Taken)
     ∷ (offering 26 2 1 1 1, Taken)
     ∷ (poll 26, Closed 1)
     ∷ sent 36

@@ -132,15 +132,15 @@ order-of-make : (m : Making) → numbersOf (makeChecks m) ≡ 1 ∷ 1 ∷ []
 unfolding numbersOf
 order-of-make m = refl
 
-order-of-words : {h : Holding} (v : Status h) (stamp : ℕ) (ws : List ℕ)
-    → numbersOf (checks v (words stamp ws)) ≡ 9 ∷ 2 ∷ 3 ∷ 4 ∷ []
+order-of-words : {h : Holding} (v : Status h) (stamp probes : ℕ) (ws : List ℕ)
+    → numbersOf (checks v (words stamp probes ws)) ≡ 9 ∷ 2 ∷ 3 ∷ 4 ∷ []
 unfolding numbersOf
-order-of-words v stamp ws = refl
+order-of-words v stamp probes ws = refl
 
-order-of-count : {h : Holding} (v : Status h) (stamp busy : ℕ)
-    → numbersOf (checks v (count stamp busy)) ≡ 9 ∷ 2 ∷ 3 ∷ 4 ∷ []
+order-of-count : {h : Holding} (v : Status h) (stamp busy probes : ℕ)
+    → numbersOf (checks v (count stamp busy probes)) ≡ 9 ∷ 2 ∷ 3 ∷ 4 ∷ []
 unfolding numbersOf
-order-of-count v stamp busy = refl
+order-of-count v stamp busy probes = refl
 
 order-of-offer : {h : Holding} (v : Status h) (stamp : ℕ) (o : Offer)
     → numbersOf (checks v (offer stamp o)) ≡ 9 ∷ 2 ∷ 3 ∷ 5 ∷ 6 ∷ 7 ∷ 8 ∷ 11 ∷ []
@@ -158,7 +158,7 @@ sixteen last = 18446744073709551615 ∷ 0 ∷ 0 ∷ 0 ∷ 0 ∷ 0 ∷ 0 ∷ 0 �
 
 allAt : (stamp : ℕ) → List Call
 unfolding sixteen
-allAt stamp = words stamp (sixteen 0) ∷ count stamp 1000 ∷ offering stamp 7 0 1 1 ∷ poll stamp ∷ []
+allAt stamp = words stamp 1000 (sixteen 0) ∷ count stamp 1000 1000 ∷ offering stamp 7 0 1 1 ∷ poll stamp ∷ []
 
 abbrev accepted : List Answer
 accepted = Taken ∷ Taken ∷ Taken ∷ Idle ∷ []
@@ -214,18 +214,42 @@ zeros : List ℕ
 zeros = 0 ∷ 0 ∷ 0 ∷ 0 ∷ 0 ∷ 0 ∷ 0 ∷ 0 ∷ 0 ∷ 0 ∷ 0 ∷ 0 ∷ 0 ∷ 0 ∷ 0 ∷ []
 
 words-15-16-17 :
-    eachOf (made 1) (words 0 zeros ∷ words 0 (0 ∷ zeros) ∷ words 0 (0 ∷ 0 ∷ zeros) ∷ []) ≡ Refused 4 ∷ Taken ∷ Refused 4 ∷ []
+    eachOf (made 1) (words 0 1000 zeros ∷ words 0 1000 (0 ∷ zeros) ∷ words 0 1000 (0 ∷ 0 ∷ zeros) ∷ [])
+    ≡ Refused 4 ∷ Taken ∷ Refused 4 ∷ []
 unfolding eachOf made zeros
 words-15-16-17 = refl
 
 stray-bit :
-    eachOf (made 1) (words 0 (sixteen 1099511627775) ∷ words 0 (sixteen 1099511627776) ∷ []) ≡ Taken ∷ Refused 4 ∷ []
+    eachOf (made 1) (words 0 1000 (sixteen 1099511627775) ∷ words 0 1000 (sixteen 1099511627776) ∷ []) ≡ Taken ∷ Refused 4 ∷ []
 unfolding eachOf made sixteen
 stray-bit = refl
 
-busy-counts : eachOf (made 1) (count 0 0 ∷ count 0 1000 ∷ count 0 1001 ∷ []) ≡ Taken ∷ Taken ∷ Refused 4 ∷ []
+busy-counts : eachOf (made 1) (count 0 0 1000 ∷ count 0 1000 1000 ∷ count 0 1001 1000 ∷ []) ≡ Taken ∷ Taken ∷ Refused 4 ∷ []
 unfolding eachOf made
 busy-counts = refl
+
+-- "probe count outside 1 to 12,500, a wrong number of words, a stray bit, or busy above probes" (W-208): 0 means 1,000 in
+-- records only
+probe-counts :
+    eachOf (made 1) (count 0 0 0 ∷ count 0 0 1 ∷ count 0 12500 12500 ∷ count 0 12501 12500 ∷ count 0 0 12501 ∷ [])
+    ≡ Refused 4 ∷ Taken ∷ Taken ∷ Refused 4 ∷ Refused 4 ∷ []
+unfolding eachOf made
+probe-counts = refl
+
+words-of-probes :
+    eachOf (made 1)
+    (words 0 0 (0 ∷ zeros)
+    ∷ words 0 1 (1 ∷ [])
+    ∷ words 0 1 (2 ∷ [])
+    ∷ words 0 64 (18446744073709551615 ∷ [])
+    ∷ words 0 64 (1 ∷ 0 ∷ [])
+    ∷ words 0 65 (1 ∷ [])
+    ∷ words 0 65 (1 ∷ 1 ∷ [])
+    ∷ words 0 999 (0 ∷ zeros)
+    ∷ [])
+    ≡ Refused 4 ∷ Taken ∷ Refused 4 ∷ Taken ∷ Refused 4 ∷ Refused 4 ∷ Taken ∷ Taken ∷ []
+unfolding eachOf made zeros
+words-of-probes = refl
 
 -- 5 "priority above 3"
 priorities : eachOf (made 1) (map (λ (n : ℕ). offering 0 7 n 1 1) (0 ∷ 3 ∷ 4 ∷ [])) ≡ Taken ∷ Taken ∷ Refused 5 ∷ []
@@ -337,7 +361,7 @@ unfolding eachOf timed allAt
 two-before-three = refl
 
 three-before-four-and-five :
-    eachOf (timed 1000000000000000) (words 1 [] ∷ count 1 1001 ∷ offering 1 7 4 1 1 ∷ [])
+    eachOf (timed 1000000000000000) (words 1 1000 [] ∷ count 1 1001 1000 ∷ offering 1 7 4 1 1 ∷ [])
     ≡ Refused 3 ∷ Refused 3 ∷ Refused 3 ∷ []
 unfolding eachOf timed
 three-before-four-and-five = refl
@@ -365,8 +389,8 @@ eleven-displaces-nothing = refl
 unchanged :
     map (λ (c : Call). call (withWay 1 crowded) c)
     (poll 2
-    ∷ words 13 []
-    ∷ count 13 1001
+    ∷ words 13 1000 []
+    ∷ count 13 1001 1000
     ∷ offering 13 9 4 1 1
     ∷ offering 13 9 1 0 1
     ∷ offering 13 9 1 1 0
@@ -378,7 +402,7 @@ unchanged = refl
 
 -- "A sample expires nothing.": it removes and counts none, though all have expired at 130
 sampled-only :
-    call crowded (count 113 1000)
+    call crowded (count 113 1000 1000)
     ≡ result
     (state (clockAt 130 113) (steered 1 1 600000 0 0 0) (lastAt 15 400 1) (twoDisplaced 15 3 1) (queues five0 one1 one2 two3))
     Taken
@@ -480,7 +504,7 @@ third-goes-first = refl
 same-way :
     map
     (λ (v : View). map (λ (c : Call). call v c .view .oldway)
-    (count 6 1000 ∷ offering 6 10 3 1 1 ∷ offering 6 10 0 1 1 ∷ poll 6 ∷ poll 200000 ∷ []))
+    (count 6 1000 1000 ∷ offering 6 10 3 1 1 ∷ offering 6 10 0 1 1 ∷ poll 6 ∷ poll 200000 ∷ []))
     (crowded ∷ withWay 1 crowded ∷ [])
     ≡ (0 ∷ 0 ∷ 0 ∷ 0 ∷ 0 ∷ []) ∷ (1 ∷ 1 ∷ 1 ∷ 1 ∷ 1 ∷ []) ∷ []
 unfolding of-runs
@@ -581,10 +605,10 @@ closed-in-3 = refl
 
 -- "It is taken afresh at each poll.": "It goes by the level or duty of now" (R6), which samples between two polls change
 abbrev loud : Call
-loud = count 0 1000
+loud = count 0 1000 1000
 
 abbrev silent : Call
-silent = count 0 0
+silent = count 0 0 1000
 
 afresh-by-level :
     answersOf (firstSent 1 1000) (loud ∷ poll 0 ∷ loud ∷ poll 0 ∷ loud ∷ poll 0 ∷ loud ∷ poll 0 ∷ silent ∷ poll 0 ∷ [])
@@ -610,7 +634,7 @@ clocks :
 unfolding timed allAt
 clocks = refl
 
-wrapped : after (make (making 1 4294967295) .view) (poll 0 ∷ count 4 0 ∷ []) .clock ≡ clockAt 5 4
+wrapped : after (make (making 1 4294967295) .view) (poll 0 ∷ count 4 0 1000 ∷ []) .clock ≡ clockAt 5 4
 unfolding after
 wrapped = refl
 
@@ -629,33 +653,41 @@ unfolding steeredAfter
 down-by-one = refl
 
 own-table :
-    map (λ (n : ℕ). steeredAfter (steered n 3 600000 0 0 0) (count 0 620 ∷ [])) (1 ∷ 2 ∷ [])
+    map (λ (n : ℕ). steeredAfter (steered n 3 600000 0 0 0) (count 0 620 1000 ∷ [])) (1 ∷ 2 ∷ [])
     ≡ steered 1 4 600000 0 0 0 ∷ steered 2 3 600000 0 0 0 ∷ []
 unfolding steeredAfter
 own-table = refl
 
 -- "Profile 3: the 1st, 3rd, 5th sample is kept. Each even one, with the kept one, updates and clears the kept"; it "never changes
 -- level". "A refused sample is not the 1st, 2nd or 3rd of anything." (R7)
-first-kept : steeredAfter (steered 3 2 600000 0 0 0) (count 0 400 ∷ []) ≡ steered 3 2 600000 0 400000 1
+first-kept : steeredAfter (steered 3 2 600000 0 0 0) (count 0 400 1000 ∷ []) ≡ steered 3 2 600000 0 400000 1
 unfolding steeredAfter
 first-kept = refl
 
 second-updates :
-    steeredAfter (steered 3 2 600000 0 0 0) (count 0 400 ∷ count 0 1001 ∷ count 0 801 ∷ []) ≡ steered 3 2 1046100 300250 0 0
+    steeredAfter (steered 3 2 600000 0 0 0) (count 0 400 1000 ∷ count 0 1001 1000 ∷ count 0 801 1000 ∷ [])
+    ≡ steered 3 2 1046100 300250 0 0
 unfolding steeredAfter
 second-updates = refl
 
 third-and-fourth :
-    steeredAfter (steered 3 2 1046100 300250 0 0) (count 0 1000 ∷ count 0 900 ∷ []) ≡ steered 3 2 1095212 625125 0 0
+    steeredAfter (steered 3 2 1046100 300250 0 0) (count 0 1000 1000 ∷ count 0 900 1000 ∷ []) ≡ steered 3 2 1095212 625125 0 0
 unfolding steeredAfter
 third-and-fourth = refl
 
 -- "the number of busy probes is the count of one bits; load is 1,000 times that": a sample by words is one by its count
 by-words :
-    map (λ (c : Call). call (made 3) c) (words 9 (sixteen 1099511627775) ∷ count 9 106 ∷ [])
+    map (λ (c : Call). call (made 3) c) (words 9 1000 (sixteen 1099511627775) ∷ count 9 106 1000 ∷ [])
     ≡ map
     (λ (n : ℕ). result
     (state (clockAt 9 9) (steered 3 0 600000 0 n 1) (lastAt 0 0 0) (counted 0 0 0) (queues [] [] [] [])) Taken)
     (106000 ∷ 106000 ∷ [])
 unfolding made sixteen
 by-words = refl
+
+-- "floor(1,000,000 × busy / probes)" (W-208): 7,751 of 12,500, by its count; one of three, by words and by its count
+by-probes :
+    map (λ (c : Call). call (made 3) c .view .control .tuning .kept) (count 9 7751 12500 ∷ words 9 3 (4 ∷ []) ∷ count 9 1 3 ∷ [])
+    ≡ 620080 ∷ 333333 ∷ 333333 ∷ []
+unfolding made
+by-probes = refl

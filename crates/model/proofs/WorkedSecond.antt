@@ -153,7 +153,7 @@ unfolding of-runs old
 leftBy cs = length (after old cs .ledger)
 
 dropped-by-samples :
-    map leftBy ((count 0 5 ∷ []) ∷ (count 1 5 ∷ []) ∷ (count 1 1001 ∷ []) ∷ (count 100001 5 ∷ []) ∷ [])
+    map leftBy ((count 0 5 1000 ∷ []) ∷ (count 1 5 1000 ∷ []) ∷ (count 1 1001 1000 ∷ []) ∷ (count 100001 5 1000 ∷ []) ∷ [])
     ≡ 9 ∷ 8 ∷ 9 ∷ 7 ∷ []
 unfolding leftBy after
 dropped-by-samples = refl

@@ -289,7 +289,7 @@ abbrev unsound : View
 unsound = withControl good (steered 3 5 700000 5 400000 1)
 
 refused-with-9 :
-    map (λ (c : Call). call unsound c) (words 7 [] ∷ count 7 0 ∷ offering 7 7 0 1 1 ∷ poll 7 ∷ [])
+    map (λ (c : Call). call unsound c) (words 7 1000 [] ∷ count 7 0 1000 ∷ offering 7 7 0 1 1 ∷ poll 7 ∷ [])
     ≡ map (λ (n : ℕ). result unsound (Refused n)) (9 ∷ 9 ∷ 9 ∷ 9 ∷ [])
 unfolding of-runs
 refused-with-9 = refl

@@ -11,17 +11,18 @@ use Rattle.model.specs.declared.Answer.{Answer}
 use Rattle.model.specs.declared.Answer.the-variants.{Ready, Taken, Sent, Idle, Closed, Refused}
 use Rattle.model.specs.Packets.{noPacket}
 
--- "The calls are: make, sample (by words or by busy count), offer, poll.": those on a state
+-- "The calls are: make, sample (by words or by busy count), offer, poll.": those on a state. A sample is
+-- "given as a probe count and just enough words" (document 02, W-208), or as so many busy of its probes
 pub data Call : Type 0 where
-  words : (stamp : ℕ) → List ℕ → Call
-  count : (stamp busy : ℕ) → Call
+  words : (stamp probes : ℕ) → List ℕ → Call
+  count : (stamp busy probes : ℕ) → Call
   offer : (stamp : ℕ) → Offer → Call
   poll : (stamp : ℕ) → Call
 
 -- every call has a stamp
 abbrev pub stampOf : Call → ℕ
-stampOf (words stamp ws) = stamp
-stampOf (count stamp busy) = stamp
+stampOf (words stamp probes ws) = stamp
+stampOf (count stamp busy probes) = stamp
 stampOf (offer stamp o) = stamp
 stampOf (poll stamp) = stamp
 

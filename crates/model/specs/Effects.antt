@@ -5,7 +5,7 @@ use mathlib.Core.List.{List, [], _∷_, _++_}
 use lib.Dec.{leb, ltb, eqb}
 use Rattle.rules.specs.Clock.{stepOf}
 use Rattle.rules.specs.Profiles.{room}
-use Rattle.rules.specs.Samples.{probes, busyOf, loadOf}
+use Rattle.rules.specs.Samples.{busyOf, loadOf}
 use Rattle.control.specs.Control.{sampled}
 use Rattle.control.specs.Wait.{closedAfter}
 use Rattle.model.specs.declared.Packet.{Packet}
@@ -42,8 +42,8 @@ abbrev pub moved : {h : Holding} → Status h → (stamp : ℕ) → Status h
 moved v stamp = aged (withClock v (stepped (v .clock) stamp))
 
 -- "A sample expires nothing."
-abbrev pub sampledBy : {h : Holding} → Status h → (stamp busy : ℕ) → Status h
-sampledBy v stamp busy = withControl (moved v stamp) (sampled (v .control) (loadOf busy))
+abbrev pub sampledBy : {h : Holding} → Status h → (stamp busy probes : ℕ) → Status h
+sampledBy v stamp busy probes = withControl (moved v stamp) (sampled (v .control) (loadOf busy probes))
 
 -- one more offer accepted, one more packet sent, some more expired (document 02, W-201), one more displaced
 -- (W-205)
@@ -140,8 +140,8 @@ polled v (chosen p left) =
 
 -- what each call does that is not refused
 unfoldable pub effect : {h : Holding} → Status h → Call → Result h
-effect v (words stamp ws) = result (sampledBy v stamp (busyOf ws probes)) Taken
-effect v (count stamp busy) = result (sampledBy v stamp busy) Taken
+effect v (words stamp probes ws) = result (sampledBy v stamp (busyOf ws probes) probes) Taken
+effect v (count stamp busy probes) = result (sampledBy v stamp busy probes) Taken
 effect v (offer stamp o) =
     result
     (joined (roomMade (refreshed v stamp) (o .priority)) (packetOf o (refreshed v stamp .clock .time)))

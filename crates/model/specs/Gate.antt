@@ -36,8 +36,8 @@ roomChecks oldway ofPriority accepted =
 
 -- "then 4, 5, 6, 7, 8 as they apply"; 4 BAD-SAMPLE
 abbrev pub ownChecks : {h : Holding} → Status h → Call → List Check
-ownChecks v (words stamp ws) = check 4 (not (goodWords ws)) ∷ []
-ownChecks v (count stamp busy) = check 4 (badCount busy) ∷ []
+ownChecks v (words stamp probes ws) = check 4 (not (goodWords probes ws)) ∷ []
+ownChecks v (count stamp busy probes) = check 4 (badCount busy probes) ∷ []
 ownChecks {h} v (offer stamp o) =
     numberChecks (v .control .profile) o
     ++ roomChecks (v .oldway) (h .ofPriority (o .priority) (refreshed v stamp .waiting)) (v .counts .accepted)

@@ -6,6 +6,7 @@ use mathlib.Core.Bool.{true, false}
 use mathlib.Core.List.{List, [], _∷_, _++_, map}
 use mathlib.Core.Logic.{inl, inr}
 use lib.IntN.{ℤ, pos, negℤ}
+use lib.ListN.{replicate}
 use Rattle.rules.specs.declared.Sample.the-variants.{Busy, Bad}
 use Rattle.rules.specs.Tests.{allOf}
 use Rattle.rules.specs.Profiles.{profile3, fullLoad, topLevel, within, isProfile, isReactive, byProfile}
@@ -13,7 +14,8 @@ use Rattle.rules.specs.Profiles.{reactiveOf, limitsOf, mostOntime, ontim
 use Rattle.rules.specs.Profiles.{lifetimeAllowed, lastPriority, room, mostOffers}
 use Rattle.rules.specs.Clock.{stamps, stepOf, goesBack, endOfTime, passesEnd}
 use Rattle.rules.specs.Refusals.{check, firstOf, FirstHolds, NoneHolds}
-use Rattle.rules.specs.Samples.{probes, probe, busyOf, goodWords, sampleOf, sampleNumber, badCount, loadOf}
+use Rattle.rules.specs.Samples.{mostProbes, goodProbes, usualProbes, probe, busyOf, wordsFor, noStray, goodWords}
+use Rattle.rules.specs.Samples.{sampleOf, sampleNumber, badCount, loadOf}
 use Rattle.rules.specs.Levels.{wantedBy, towards, waitBy}
 use Rattle.rules.specs.Duty.{floorDiv, held, heldOffset, heldWhole, smoothedOf, offsetOf, dutyOf}
 use Rattle.rules.specs.Wait.{ceilDiv, wholeDuty, adaptiveWait, startOf}
@@ -72,10 +74,10 @@ unfolding startOf
 start-of-the-wait = refl
 
 -- "loads at most 1,000,000", "level at most 4", "Duty is in parts per 1,000,000,000", "priority above 3", "queues of up to 5
--- packets", "accepted above 10^15" (W-201), "10^15", "4,294,967,296", "1,000 probes"
+-- packets", "accepted above 10^15" (W-201), "10^15", "4,294,967,296", "1,000 probes", "12,500 probes" (W-208)
 numbers-of-the-paper :
-    fullLoad ∷ topLevel ∷ wholeDuty ∷ lastPriority ∷ room ∷ mostOffers ∷ endOfTime ∷ stamps ∷ probes ∷ []
-    ≡ 1000000 ∷ 4 ∷ 1000000000 ∷ 3 ∷ 5 ∷ 1000000000000000 ∷ 1000000000000000 ∷ 4294967296 ∷ 1000 ∷ []
+    fullLoad ∷ topLevel ∷ wholeDuty ∷ lastPriority ∷ room ∷ mostOffers ∷ endOfTime ∷ stamps ∷ usualProbes ∷ mostProbes ∷ []
+    ≡ 1000000 ∷ 4 ∷ 1000000000 ∷ 3 ∷ 5 ∷ 1000000000000000 ∷ 1000000000000000 ∷ 4294967296 ∷ 1000 ∷ 12500 ∷ []
 numbers-of-the-paper = refl
 
 -- "duty 600,000 to 30,000,000"
@@ -160,22 +162,33 @@ busy-probes :
 unfolding sampleFrom busyOf probe
 busy-probes = refl
 
--- "not 16 words, or a bit above bit 39 set in the last"
+-- "probe count outside 1 to 12,500" (W-208)
+probe-counts : map goodProbes (0 ∷ 1 ∷ 1000 ∷ 12500 ∷ 12501 ∷ []) ≡ false ∷ true ∷ true ∷ true ∷ false ∷ []
+unfolding goodProbes within
+probe-counts = refl
 
-good-words : map goodWords (sampleFrom 0 0 0 ∷ sampleFrom (2 ^ 64 - 1) (2 ^ 40) (2 ^ 40 - 1) ∷ []) ≡ true ∷ true ∷ []
-unfolding sampleFrom goodWords
+-- "just enough words"
+words-needed : map wordsFor (1 ∷ 63 ∷ 64 ∷ 65 ∷ 128 ∷ 129 ∷ 1000 ∷ 12500 ∷ []) ≡ 1 ∷ 1 ∷ 1 ∷ 2 ∷ 2 ∷ 3 ∷ 16 ∷ 196 ∷ []
+words-needed = refl
+
+-- "not 16 words, or a bit above bit 39 set in the last": a sample of 1,000 probes
+
+good-words :
+    map (goodWords 1000) (sampleFrom 0 0 0 ∷ sampleFrom (2 ^ 64 - 1) (2 ^ 40) (2 ^ 40 - 1) ∷ []) ≡ true ∷ true ∷ []
+unfolding sampleFrom goodWords goodProbes within noStray
 good-words = refl
 
-stray-bits : map (λ (last : ℕ). goodWords (sampleFrom 0 0 last)) (2 ^ 39 ∷ 2 ^ 40 ∷ 2 ^ 63 ∷ []) ≡ true ∷ false ∷ false ∷ []
-unfolding sampleFrom goodWords
+stray-bits :
+    map (λ (last : ℕ). goodWords 1000 (sampleFrom 0 0 last)) (2 ^ 39 ∷ 2 ^ 40 ∷ 2 ^ 63 ∷ []) ≡ true ∷ false ∷ false ∷ []
+unfolding sampleFrom goodWords goodProbes within noStray
 stray-bits = refl
 
 fifteen : List ℕ
 fifteen = 1 ∷ 0 ∷ 0 ∷ 0 ∷ 0 ∷ 0 ∷ 0 ∷ 0 ∷ 0 ∷ 0 ∷ 0 ∷ 0 ∷ 0 ∷ 0 ∷ 0 ∷ []
 
 number-of-words :
-    map goodWords ([] ∷ fifteen ∷ (fifteen ++ 0 ∷ []) ∷ (fifteen ++ 0 ∷ 0 ∷ []) ∷ []) ≡ false ∷ false ∷ true ∷ false ∷ []
-unfolding fifteen goodWords
+    map (goodWords 1000) ([] ∷ fifteen ∷ (fifteen ++ 0 ∷ []) ∷ (fifteen ++ 0 ∷ 0 ∷ []) ∷ []) ≡ false ∷ false ∷ true ∷ false ∷ []
+unfolding fifteen goodWords goodProbes within noStray
 number-of-words = refl
 
 allBusy : List ℕ
@@ -184,7 +197,7 @@ allBusy =
     w ∷ w ∷ w ∷ w ∷ w ∷ w ∷ w ∷ w ∷ w ∷ w ∷ w ∷ w ∷ w ∷ w ∷ w ∷ (2 ^ 40 - 1) ∷ []
 
 samples-by-words :
-    map sampleOf
+    map (sampleOf 1000)
     (sampleFrom 0 0 0
     ∷ sampleFrom (2 ^ 64 - 1) 5 (2 ^ 40 - 1)
     ∷ allBusy
@@ -193,23 +206,77 @@ samples-by-words :
     ∷ (fifteen ++ 0 ∷ 0 ∷ [])
     ∷ [])
     ≡ Busy 0 ∷ Busy 106 ∷ Busy 1000 ∷ Bad ∷ Bad ∷ Bad ∷ []
-unfolding allBusy sampleFrom fifteen sampleOf goodWords busyOf probe
+unfolding allBusy sampleFrom fifteen sampleOf goodWords goodProbes within noStray busyOf probe
 samples-by-words = refl
+
+-- other numbers of probes (W-208): none; one, busy and not, with a stray bit, with a word too few and too many; 63, 64 and 65,
+-- where no bit of a full word is stray; 12,501
+
+no-probes : map (sampleOf 0) ([] ∷ (0 ∷ []) ∷ fifteen ∷ []) ≡ Bad ∷ Bad ∷ Bad ∷ []
+unfolding fifteen sampleOf goodWords goodProbes within noStray busyOf probe
+no-probes = refl
+
+one-probe :
+    map (sampleOf 1) ((1 ∷ []) ∷ (0 ∷ []) ∷ (2 ∷ []) ∷ (3 ∷ []) ∷ (2 ^ 63 ∷ []) ∷ [] ∷ (1 ∷ 0 ∷ []) ∷ [])
+    ≡ Busy 1 ∷ Busy 0 ∷ Bad ∷ Bad ∷ Bad ∷ Bad ∷ Bad ∷ []
+unfolding sampleOf goodWords goodProbes within noStray busyOf probe
+one-probe = refl
+
+sixty-three-probes : map (sampleOf 63) (((2 ^ 63 - 1) ∷ []) ∷ (2 ^ 63 ∷ []) ∷ (1 ∷ 0 ∷ []) ∷ []) ≡ Busy 63 ∷ Bad ∷ Bad ∷ []
+unfolding sampleOf goodWords goodProbes within noStray busyOf probe
+sixty-three-probes = refl
+
+sixty-four-probes :
+    map (sampleOf 64) (((2 ^ 64 - 1) ∷ []) ∷ (2 ^ 63 ∷ []) ∷ [] ∷ (1 ∷ 0 ∷ []) ∷ []) ≡ Busy 64 ∷ Busy 1 ∷ Bad ∷ Bad ∷ []
+unfolding sampleOf goodWords goodProbes within noStray busyOf probe
+sixty-four-probes = refl
+
+sixty-five-probes :
+    map (sampleOf 65) (((2 ^ 64 - 1) ∷ 1 ∷ []) ∷ (2 ^ 63 ∷ 0 ∷ []) ∷ (0 ∷ 2 ∷ []) ∷ (1 ∷ []) ∷ (1 ∷ 0 ∷ 0 ∷ []) ∷ [])
+    ≡ Busy 65 ∷ Busy 1 ∷ Bad ∷ Bad ∷ Bad ∷ []
+unfolding sampleOf goodWords goodProbes within noStray busyOf probe
+sixty-five-probes = refl
+
+-- every probe of 12,500 busy; a stray bit behind them; a word too many
+mostBusy : (last : ℕ) → List ℕ
+mostBusy last = replicate 195 (2 ^ 64 - 1) ++ last ∷ []
+
+most-probes :
+    map (sampleOf 12500) (mostBusy (2 ^ 20 - 1) ∷ mostBusy (2 ^ 20) ∷ (mostBusy 0 ++ 0 ∷ []) ∷ []) ≡ Busy 12500 ∷ Bad ∷ Bad ∷ []
+unfolding mostBusy sampleOf goodWords goodProbes within noStray busyOf probe
+most-probes = refl
 
 -- BAD-SAMPLE is "4"
 sample-numbers : map sampleNumber (Busy 0 ∷ Busy 1000 ∷ Bad ∷ []) ≡ 0 ∷ 0 ∷ 4 ∷ []
 unfolding sampleNumber
 sample-numbers = refl
 
--- "busy count above 1,000"; "load is 1,000 times that"
+-- "busy count above 1,000", of 1,000; "probe count outside 1 to 12,500 .. or busy above probes" (W-208)
 
-counts : map badCount (0 ∷ 1000 ∷ 1001 ∷ []) ≡ false ∷ false ∷ true ∷ []
-unfolding badCount
+counts : map (λ (busy : ℕ). badCount busy 1000) (0 ∷ 1000 ∷ 1001 ∷ []) ≡ false ∷ false ∷ true ∷ []
+unfolding badCount goodProbes within
 counts = refl
 
-loads : map loadOf (0 ∷ 1 ∷ 395 ∷ 1000 ∷ []) ≡ 0 ∷ 1000 ∷ 395000 ∷ 1000000 ∷ []
+counts-of-probes :
+    badCount 0 0 ∷ badCount 1000 0 ∷ badCount 0 1 ∷ badCount 1 1 ∷ badCount 2 1 ∷ badCount 12500 12500 ∷ badCount 12501 12500
+    ∷ badCount 0 12501 ∷ []
+    ≡ true ∷ true ∷ false ∷ false ∷ true ∷ false ∷ true ∷ true ∷ []
+unfolding badCount goodProbes within
+counts-of-probes = refl
+
+-- "load is 1,000 times that", of 1,000; "floor(1,000,000 × busy / probes)" (W-208): of 1; 7,750 and 7,751 of 12,500, on either
+-- side of 62 %; all of 12,500; 1 of 3 and 2 of 3, rounded down
+
+loads : map (λ (busy : ℕ). loadOf busy 1000) (0 ∷ 1 ∷ 395 ∷ 1000 ∷ []) ≡ 0 ∷ 1000 ∷ 395000 ∷ 1000000 ∷ []
 unfolding loadOf
 loads = refl
+
+loads-of-probes :
+    loadOf 0 1 ∷ loadOf 1 1 ∷ loadOf 1 12500 ∷ loadOf 7750 12500 ∷ loadOf 7751 12500 ∷ loadOf 12500 12500 ∷ loadOf 1 3
+    ∷ loadOf 2 3 ∷ []
+    ≡ 0 ∷ 1000000 ∷ 80 ∷ 620000 ∷ 620080 ∷ 1000000 ∷ 333333 ∷ 666666 ∷ []
+unfolding loadOf
+loads-of-probes = refl
 
 -- "Reactive levels wanted, by load": "below 300,000", "to 399,999", "to 499,999", "to 600,000" or "to 650,000", "above"; and not
 -- "Leaving 39.5 % in no state, or 60 % exactly in Restrictive"
