@@ -106,8 +106,8 @@ module _ (h k : Holding) (R : ℕ → h .Held → k .Held → Type 0) (laws : Al
   own-number : (w : Status k) (x : h .Held) (c : Call) → R (w .clock .time) x (w .waiting)
       → firstOf (ownChecks (with x w) c) ≡ firstOf (ownChecks w c)
   unfolding firstOf
-  own-number w x (words stamp ws) r = refl
-  own-number w x (count stamp busy) r = refl
+  own-number w x (words stamp probes ws) r = refl
+  own-number w x (count stamp busy probes) r = refl
   own-number w x (offer stamp o) r =
       split (ltb lastPriority (o .priority)) (λ e. rw e)
       (λ e. rw (laws .ofPriority (stepped (w .clock) stamp .time) (o .priority) (live x w stamp) (refreshed w stamp .waiting)
@@ -170,8 +170,8 @@ module _ (h k : Holding) (R : ℕ → h .Held → k .Held → Type 0) (laws : Al
   same-effect : (x : h .Held) (w : Status k) (c : Call) → R (w .clock .time) x (w .waiting) → NoneHolds (checks w c)
       → Same (effect (with x w) c) (effect w c)
   unfolding effect checks
-  same-effect x w (words stamp ws) r n = (refl, record { same = refl; packets = later w stamp x r })
-  same-effect x w (count stamp busy) r n = (refl, record { same = refl; packets = later w stamp x r })
+  same-effect x w (words stamp probes ws) r n = (refl, record { same = refl; packets = later w stamp x r })
+  same-effect x w (count stamp busy probes) r n = (refl, record { same = refl; packets = later w stamp x r })
   same-effect x w (offer stamp o) r n =
       let a = ltb-false lastPriority (o .priority) (n .1 .1 .1 .0) in (
         refl,

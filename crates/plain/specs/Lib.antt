@@ -1,0 +1,2 @@
+-- The plain engine, on states as the code holds them (document 02, W-212).
+pub mod Layout
