@@ -1,11 +1,11 @@
--- Two good samples by words with the same count: the record goes by the count alone, and so does the gate's answer.
+-- Two good samples by words with the same counts: the record goes by the counts alone, and so does the gate's answer.
 use Prim.Native.Nat.{ℕ}
 use mathlib.Core.Path.{_≡_, sym, ap, ap₂, _∙_}
 use mathlib.Core.Bool.{Bool, true, not}
 use mathlib.Core.List.{List, _∷_}
 use lib.ListN.{length}
 use Rattle.rules.specs.Refusals.{check, firstOf}
-use Rattle.rules.specs.Samples.{probes, busyOf, goodWords, sampleOf}
+use Rattle.rules.specs.Samples.{busyOf, goodWords, sampleOf}
 use Rattle.model.specs.Calls.{Call, words, count}
 use Rattle.gate.specs.declared.State.{State}
 use Rattle.gate.specs.declared.Outcome.{Outcome}
@@ -18,17 +18,17 @@ use Rattle.calllog.specs.Writing.{ShareRecord, answersOn, SameAfter, Cou
 
 -- a good sample by words is answered as the one by its count
 pub count-for-words :
-    (s : State) (stamp : ℕ) (ws : List ℕ) → goodWords ws ≡ true
-    → callOn s (count stamp (busyOf ws probes)) ≡ callOn s (words stamp ws)
+    (s : State) (stamp probes : ℕ) (ws : List ℕ) → goodWords probes ws ≡ true
+    → callOn s (count stamp (busyOf ws probes) probes) ≡ callOn s (words stamp probes ws)
 unfolding sampleOf
-count-for-words s stamp ws g = words-busy s stamp ws (busyOf ws probes) (rw g)
+count-for-words s stamp probes ws g = words-busy s stamp probes ws (busyOf ws probes) (rw g)
 
 -- two good samples by words with one count
 pub share-record : ShareRecord
 unfolding recordOf writeNumber argumentChecks logAfter
-share-record log at stamp ws ws′ same =
-    let one : goodWords ws ≡ goodWords ws′ = same .good ∙ sym (same .good′) in
-    let fields = ap (sampleRecord stamp) (same .busy) in
+share-record log at stamp probes ws ws′ same =
+    let one : goodWords probes ws ≡ goodWords probes ws′ = same .good ∙ sym (same .good′) in
+    let fields = ap (λ (busy : ℕ). sampleRecord stamp busy probes) (same .busy) in
     let answer =
     ap (λ (g : Bool). firstOf (check 4 (not g) ∷ placeChecks (length log) at)) one in
     record {
@@ -47,12 +47,13 @@ alike-after s a b behind e =
     }
 
 pub count-answers-alike : CountAnswersAlike
-count-answers-alike s stamp ws g behind =
-    alike-after s (words stamp ws) (count stamp (busyOf ws probes)) behind (sym (count-for-words s stamp ws g))
+count-answers-alike s stamp probes ws g behind =
+    alike-after s (words stamp probes ws) (count stamp (busyOf ws probes) probes) behind
+    (sym (count-for-words s stamp probes ws g))
 
 pub alike-answer-alike : AlikeAnswerAlike
-alike-answer-alike s stamp ws ws′ same behind =
-    alike-after s (words stamp ws) (words stamp ws′) behind
-    (sym (count-for-words s stamp ws (same .good))
-    ∙ ap (λ (busy : ℕ). callOn s (count stamp busy)) (same .busy)
-    ∙ count-for-words s stamp ws′ (same .good′))
+alike-answer-alike s stamp probes ws ws′ same behind =
+    alike-after s (words stamp probes ws) (words stamp probes ws′) behind
+    (sym (count-for-words s stamp probes ws (same .good))
+    ∙ ap (λ (busy : ℕ). callOn s (count stamp busy probes)) (same .busy)
+    ∙ count-for-words s stamp probes ws′ (same .good′))

@@ -7,18 +7,20 @@ use mathlib.Core.List.{List, [], _∷_}
 use native.Mathlib.Nat.{add-assoc, add-zero, add-suc, zero-add, add-mul-mod-self-left, mod-eq-of-lt}
 use native.Mathlib.Nat.{add-mul-div-left, div-eq-of-lt}
 use native.Mathlib.Omega.{arith}
-use borrow.Author.Tests.{lt-leb, le-ltb, ltb-false, eqb-true, eqb-false}
+use borrow.Author.Tests.{lt-leb, le-ltb, ltb-false, eqb-true, eqb-false, ne-eqb}
 use lib.Dec.{eqb}
 use lib.ListN.{length, take, drop, length-drop}
 use lib.Seq.{length-take-le, drop-cons, getD-take, getD-drop}
 use Rattle.rules.specs.Refusals.{firstOf, NoneHolds}
-use Rattle.rules.proofs.Cases.{split, clash}
+use Rattle.rules.specs.Samples.{usualProbes}
+use Rattle.rules.proofs.Cases.{split, clash, on-cond}
 use Rattle.model.specs.Calls.{words, count, offer, poll}
 use Rattle.calllog.specs.declared.Record.{Record}
-use Rattle.calllog.specs.Records.{recordBytes, byteAt, twoAt, fourAt, recordAt, Asked, makes, calls, unknown, askedBy}
+use Rattle.calllog.specs.Records.{recordBytes, byteAt, twoAt, fourAt, recordAt, Asked, makes, calls, unknown}
+use Rattle.calllog.specs.Records.{probesIn, askedBy}
 use Rattle.calllog.specs.Buffers.{written}
 use Rattle.calllog.specs.Writing.{littleEndian, bytesOf, recordOf, argumentChecks, placeChecks, writeNumber, logAfter}
-use Rattle.calllog.specs.Writing.{Narrow, Plain, Bytes, sixteenAt, WritesBack, BackExactly}
+use Rattle.calllog.specs.Writing.{probesField, Narrow, Plain, Bytes, sixteenAt, WritesBack, BackExactly}
 use Rattle.calllog.proofs.Asking.{asks-nothing}
 use Rattle.calllog.proofs.Pieces.{same-record}
 use Rattle.calllog.proofs.Writing.{place-passed}
@@ -89,6 +91,31 @@ module _ (log : List ℕ) (bytes : Bytes log) where
         stamp = omega (arith, bytes (at + 12), bytes (at + 12 + 1), bytes (at + 12 + 2), bytes (at + 12 + 3));
       }
 
+-- a lifetime field other than 1,000 is that of the probes that it is read as, which are some and fit
+read-field : (lifetime : ℕ) → (lifetime ≡ usualProbes → ⊥) → probesField (probesIn lifetime) ≡ lifetime
+unfolding probesIn probesField
+read-field lifetime other =
+    split (eqb lifetime 0)
+    (λ e. rw e (sym (eqb-true lifetime 0 e)))
+    (λ e. rw (e, ne-eqb lifetime usualProbes other) refl)
+
+read-some : (lifetime : ℕ) → probesIn lifetime ≡ 0 → ⊥
+unfolding probesIn
+read-some lifetime =
+    on-cond (λ (n : ℕ). n ≡ 0 → ⊥) (eqb lifetime 0) (λ e z. absurd (omega arith)) (λ e. eqb-false lifetime 0 e)
+
+read-lt : (lifetime : ℕ) → lifetime < 4294967296 → probesIn lifetime < 4294967296
+unfolding probesIn
+read-lt lifetime h = on-cond (λ (n : ℕ). n < 4294967296) (eqb lifetime 0) (λ e. omega arith) (λ e. h)
+
+-- and no sample's field says 1,000
+field-other : (probes : ℕ) → probesField probes ≡ usualProbes → ⊥
+unfolding probesField
+field-other probes =
+    on-cond (λ (n : ℕ). n ≡ usualProbes → ⊥) (eqb probes usualProbes)
+    (λ e z. absurd (omega arith))
+    (λ e. eqb-false probes usualProbes e)
+
 -- the record of what a plain record asks is itself, and its numbers are refused by no row; said of six numbers
 module _ (kind priority ontime lifetime id stamp : ℕ) where
   abbrev given : Record
@@ -109,7 +136,7 @@ module _ (kind priority ontime lifetime id stamp : ℕ) where
   itself p =
       by-kind
       (λ e. let z = p .make e in simp (e, z .1, z .2))
-      (λ e. let z = p .sample e in simp (e, z .0, z .1, z .2))
+      (λ e. let z = p .sample e in simp (e, z .0, z .1, read-field lifetime (z .2)))
       (λ e. simp e)
       (λ e. let z = p .poll e in simp (e, z .0, z .1, z .2, z .3))
       (λ h. absurd (omega (arith, p .known)))
@@ -119,7 +146,13 @@ module _ (kind priority ontime lifetime id stamp : ℕ) where
   accepts p f =
       by-kind
       (λ e. simp (e, lt-leb 256 priority (f .priority), le-ltb 1 lifetime (p .make e .0)))
-      (λ e. simp (e, lt-leb 4294967296 id (f .id)))
+      (λ e.
+      simp (
+        e,
+        lt-leb 4294967296 id (f .id),
+        lt-leb 4294967296 (probesIn lifetime) (read-lt lifetime (f .lifetime)),
+        ne-eqb (probesIn lifetime) 0 (read-some lifetime),
+      ))
       (λ e.
       simp (
         e,
@@ -150,18 +183,18 @@ plain (makes m) h =
       sample = λ e. absurd (omega arith);
       poll = λ e. absurd (omega arith);
     }
-plain (calls (words stamp ws)) h =
+plain (calls (words stamp probes ws)) h =
     record {
       known = omega arith;
       make = λ e. absurd (omega arith);
-      sample = λ e. (refl, refl, refl);
+      sample = λ e. (refl, refl, field-other probes);
       poll = λ e. absurd (omega arith);
     }
-plain (calls (count stamp busy)) h =
+plain (calls (count stamp busy probes)) h =
     record {
       known = omega arith;
       make = λ e. absurd (omega arith);
-      sample = λ e. (refl, refl, refl);
+      sample = λ e. (refl, refl, field-other probes);
       poll = λ e. absurd (omega arith);
     }
 plain (calls (offer stamp o)) h =

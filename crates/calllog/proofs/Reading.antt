@@ -6,25 +6,26 @@ use mathlib.Core.Bool.{Bool, true, false, cond}
 use mathlib.Core.List.{List, [], _∷_, _++_, append-assoc}
 use native.Mathlib.Nat.{zero-add}
 use native.Mathlib.Omega.{arith}
-use borrow.Author.Tests.{eq-eqb, leb-false, ltb-false, not-false}
+use borrow.Author.Tests.{eq-eqb, ne-eqb, eqb-true, eqb-false, leb-false, ltb-false, not-false}
 use lib.Dec.{eqb}
 use lib.ListN.{length, getD, take, drop, length-append, List·getD-append}
 use lib.Seq.{length-take-le, getD-append-add, take-append-seam, drop-append-add}
 use Rattle.rules.specs.Refusals.{Check, firstOf, NoneHolds}
-use Rattle.rules.specs.Samples.{probes}
-use Rattle.rules.proofs.Cases.{clash}
-use Rattle.rules.proofs.Probes.{busy-le}
+use Rattle.rules.specs.Samples.{mostProbes, usualProbes, busyOf, goodWords}
+use Rattle.rules.proofs.Cases.{clash, split, on-cond}
+use Rattle.rules.proofs.Probes.{busy-le, good-probes, good-words}
 use Rattle.rules.proofs.Refusals.{Numbered, exact, none-of, of-none, first-append}
 use Rattle.model.specs.Calls.{words, count, offer, poll}
 use Rattle.gate.specs.declared.State.{State}
 use Rattle.gate.specs.declared.Outcome.{Outcome}
 use Rattle.calllog.specs.declared.Record.{Record}
-use Rattle.calllog.specs.Records.{recordBytes, byteAt, twoAt, fourAt, recordAt, Asked, makes, calls, unknown, askedBy}
+use Rattle.calllog.specs.Records.{recordBytes, byteAt, twoAt, fourAt, recordAt, Asked, makes, calls, unknown}
+use Rattle.calllog.specs.Records.{probesIn, askedBy}
 use Rattle.calllog.specs.Steps.{answered, stepOn}
 use Rattle.calllog.specs.Lines.{ascii, line, lineOf, lastLine}
 use Rattle.calllog.specs.Buffers.{written}
 use Rattle.calllog.specs.Text.{reachedFrom, linesFrom, outputFrom}
-use Rattle.calllog.specs.Writing.{littleEndian, bytesOf, recordOf, argumentChecks, placeChecks, writeChecks}
+use Rattle.calllog.specs.Writing.{littleEndian, bytesOf, probesField, recordOf, argumentChecks, placeChecks, writeChecks}
 use Rattle.calllog.specs.Writing.{writeNumber, logAfter, WritesExactly, Narrow, counted, ReadsBack, PlaysBack}
 use Rattle.calllog.specs.Writing.{WritesBehind, logOf, AllWritten, answerLines, LogPlaysBack}
 use Rattle.calllog.proofs.Pieces.{same-record, pieces}
@@ -103,6 +104,19 @@ module _ (log : List ℕ) (at : ℕ) (a : Asked) (z : writeNumber log at a ≡ 0
   unfolding logAfter
   put = ap (λ (u : Bool). cond u (written log at (bytesOf (recordOf a))) log) (eq-eqb (writeNumber log at a) 0 z)
 
+-- a sample's field is at most its probe count
+field-le : (probes : ℕ) → probesField probes ≤ probes
+unfolding probesField
+field-le probes = on-cond (λ (n : ℕ). n ≤ probes) (eqb probes usualProbes) (λ e. omega arith) (λ e. omega arith)
+
+-- and is read as that, which is not 0
+field-read : (probes : ℕ) → (probes ≡ 0 → ⊥) → probesIn (probesField probes) ≡ probes
+unfolding probesIn probesField
+field-read probes some =
+    split (eqb probes usualProbes)
+    (λ e. rw e (sym (eqb-true probes usualProbes e)))
+    (λ e. rw (e, ne-eqb probes 0 some) refl)
+
 -- then its numbers fit
 pub fits : (a : Asked) → Narrow a → NoneHolds (argumentChecks a) → Fitting (recordOf a)
 unfolding argumentChecks recordOf
@@ -115,21 +129,22 @@ fits (makes m) n h =
       id = omega arith;
       stamp = omega arith;
     }
-fits (calls (words stamp ws)) n h =
+fits (calls (words stamp probes ws)) n h =
+    let few : probes ≤ mostProbes = good-probes probes (good-words probes ws (not-false (goodWords probes ws) (h .0)) .count) .1 in
     record {
       kind = omega arith;
       priority = omega arith;
       ontime = omega arith;
-      lifetime = omega arith;
+      lifetime = omega (arith, field-le probes);
       id = omega (arith, busy-le ws probes);
       stamp = omega (arith, n .0);
     }
-fits (calls (count stamp busy)) n h =
+fits (calls (count stamp busy probes)) n h =
     record {
       kind = omega arith;
       priority = omega arith;
       ontime = omega arith;
-      lifetime = omega arith;
+      lifetime = omega (arith, field-le probes, leb-false 4294967296 probes (h .1 .0));
       id = omega (arith, leb-false 4294967296 busy (h .0));
       stamp = omega (arith, n .0);
     }
@@ -154,14 +169,17 @@ fits (calls (poll stamp)) n h =
 fits unknown n h = clash (let e : true ≡ false = h .0 in cc)
 
 -- a call's record asks it
-asks : (a : Asked) → askedBy (recordOf a) ≡ counted a
-unfolding askedBy recordOf
-asks (makes m) = refl
-asks (calls (words stamp ws)) = refl
-asks (calls (count stamp busy)) = refl
-asks (calls (offer stamp o)) = refl
-asks (calls (poll stamp)) = refl
-asks unknown = refl
+asks : (a : Asked) → NoneHolds (argumentChecks a) → askedBy (recordOf a) ≡ counted a
+unfolding argumentChecks askedBy recordOf
+asks (makes m) h = refl
+asks (calls (words stamp probes ws)) h =
+    let good = good-probes probes (good-words probes ws (not-false (goodWords probes ws) (h .0)) .count) in
+    ap (λ (n : ℕ). calls (count stamp (busyOf ws probes) n)) (field-read probes (λ z. absurd (omega (arith, good .0))))
+asks (calls (count stamp busy probes)) h =
+    ap (λ (n : ℕ). calls (count stamp busy n)) (field-read probes (eqb-false probes 0 (h .1 .1 .0)))
+asks (calls (offer stamp o)) h = refl
+asks (calls (poll stamp)) h = refl
+asks unknown h = refl
 
 -- the record read where a call was written is the call's
 read-after :
@@ -171,13 +189,13 @@ read-after log at a n z =
     ∙ record-written log at (recordOf a) (has-room log at a z) (fits a n (none-held log at a z))
 
 pub reads-back : ReadsBack
-reads-back log at a n z = ap askedBy (read-after log at a n z) ∙ asks a
+reads-back log at a n z = ap askedBy (read-after log at a n z) ∙ asks a (none-held log at a z)
 
 same-answer : (s : State) (a : Asked) → NoneHolds (argumentChecks a) → answered s (counted a) ≡ answered s a
 unfolding argumentChecks
 same-answer s (makes m) h = refl
-same-answer s (calls (words stamp ws)) h = count-for-words s stamp ws (not-false _ (h .0))
-same-answer s (calls (count stamp busy)) h = refl
+same-answer s (calls (words stamp probes ws)) h = count-for-words s stamp probes ws (not-false _ (h .0))
+same-answer s (calls (count stamp busy probes)) h = refl
 same-answer s (calls (offer stamp o)) h = refl
 same-answer s (calls (poll stamp)) h = refl
 same-answer s unknown h = refl
@@ -185,7 +203,7 @@ same-answer s unknown h = refl
 -- so a record that was written is answered as its call
 step-same : (s : State) (a : Asked) (rec : Record) → rec ≡ recordOf a → NoneHolds (argumentChecks a) → stepOn s rec ≡ answered s a
 unfolding stepOn
-step-same s a rec e h = ap (λ (r : Record). answered s (askedBy r)) e ∙ ap (answered s) (asks a) ∙ same-answer s a h
+step-same s a rec e h = ap (λ (r : Record). answered s (askedBy r)) e ∙ ap (answered s) (asks a h) ∙ same-answer s a h
 
 pub plays-back : PlaysBack
 plays-back s log at a n z =

@@ -10,7 +10,7 @@ use Rattle.gate.specs.declared.State.{State}
 use Rattle.gate.specs.declared.Outcome.{Outcome}
 use Rattle.gate.specs.Layout.{outcome, callOn, makeState}
 use Rattle.calllog.specs.declared.Record.{Record}
-use Rattle.calllog.specs.Records.{twoAt, fourAt, recordAt, makes, calls, unknown, askedBy}
+use Rattle.calllog.specs.Records.{twoAt, fourAt, recordAt, makes, calls, unknown, probesIn, askedBy}
 use Rattle.calllog.specs.Steps.{atStart, stepOn}
 use Rattle.calllog.specs.Lines.{ascii, digitsIn, decimal, lineOf, lastLine}
 use Rattle.calllog.specs.Text.{outputOf, recordsDone, blockRoom}
@@ -36,13 +36,13 @@ ofKind kind = record { kind = kind; priority = 2; ontime = 400; lifetime = 1; id
 kinds :
     map (λ (kind : ℕ). askedBy (ofKind kind)) (0 ∷ 1 ∷ 2 ∷ 3 ∷ 4 ∷ 255 ∷ [])
     ≡ makes (record { profile = 2; oldway = 1; stamp = 9 })
-    ∷ calls (count 9 65541)
+    ∷ calls (count 9 65541 1)
     ∷ calls (offer 9 (record { id = 65541; priority = 2; ontime = 400; lifetime = 1 }))
     ∷ calls (poll 9)
     ∷ unknown
     ∷ unknown
     ∷ []
-unfolding askedBy ofKind
+unfolding probesIn askedBy ofKind
 kinds = refl
 
 -- "A kind above 3 gets BAD-CALL": 10, and the state as it was
@@ -99,15 +99,22 @@ last-lines :
 unfolding lastLine
 last-lines = refl
 
--- records in their order: an unknown kind, a make, a sample of 65,541 busy probes, and three bytes
+-- "a sample's lifetime field is the probe count, where 0 still means 1,000" (W-208), whatever it is worth
+probe-counts : map probesIn (0 ∷ 1 ∷ 1000 ∷ 12500 ∷ 20000 ∷ 4294967295 ∷ []) ≡ 1000 ∷ 1 ∷ 1000 ∷ 12500 ∷ 20000 ∷ 4294967295 ∷ []
+unfolding probesIn
+probe-counts = refl
+
+-- records in their order: an unknown kind, a make, samples of 65,541 busy probes, of 2 of 3, and of 0 of 20,000, and three bytes
 log : List ℕ
 log =
     (9 ∷ 0 ∷ 0 ∷ 0 ∷ 0 ∷ 0 ∷ 0 ∷ 0 ∷ 0 ∷ 0 ∷ 0 ∷ 0 ∷ 0 ∷ 0 ∷ 0 ∷ 0 ∷ [])
     ++ (0 ∷ 1 ∷ 0 ∷ 0 ∷ 0 ∷ 0 ∷ 0 ∷ 0 ∷ 0 ∷ 0 ∷ 0 ∷ 0 ∷ 5 ∷ 0 ∷ 0 ∷ 0 ∷ [])
     ++ (1 ∷ 0 ∷ 0 ∷ 0 ∷ 0 ∷ 0 ∷ 0 ∷ 0 ∷ 5 ∷ 0 ∷ 1 ∷ 0 ∷ 6 ∷ 0 ∷ 0 ∷ 0 ∷ [])
+    ++ (1 ∷ 0 ∷ 0 ∷ 0 ∷ 3 ∷ 0 ∷ 0 ∷ 0 ∷ 2 ∷ 0 ∷ 0 ∷ 0 ∷ 6 ∷ 0 ∷ 0 ∷ 0 ∷ [])
+    ++ (1 ∷ 0 ∷ 0 ∷ 0 ∷ 32 ∷ 78 ∷ 0 ∷ 0 ∷ 0 ∷ 0 ∷ 0 ∷ 0 ∷ 6 ∷ 0 ∷ 0 ∷ 0 ∷ [])
     ++ (3 ∷ 0 ∷ 0 ∷ [])
 
-output : outputOf log ≡ ascii "REFUSED 10\nREADY\nREFUSED 4\nTORN\n"
+output : outputOf log ≡ ascii "REFUSED 10\nREADY\nREFUSED 4\nTAKEN\nREFUSED 4\nTORN\n"
 unfolding log of-states of-logs
 output = refl
 

@@ -3,15 +3,14 @@ use Prim.Native.Nat.{ℕ, _-_, _^_}
 use mathlib.Core.Path.{_≡_, refl}
 use mathlib.Core.List.{List, [], _∷_, _++_, map}
 use lib.ListN.{replicate}
-use Rattle.rules.specs.Refusals.{firstOf}
-use Rattle.rules.specs.Samples.{probe, busyOf, goodWords}
 use Rattle.model.specs.Calls.{words, count, offer, poll}
-use Rattle.calllog.specs.Records.{twoAt, fourAt, recordAt, Asked, makes, calls, unknown, askedBy}
-use Rattle.calllog.specs.Writing.{littleEndian, bytesOf, recordOf, argumentChecks, writeNumber, logAfter}
+use Rattle.model.proofs.Computing.{of-samples}
+use Rattle.calllog.specs.Records.{twoAt, fourAt, recordAt, Asked, makes, calls, unknown, probesIn, askedBy}
+use Rattle.calllog.specs.Writing.{littleEndian, bytesOf, probesField, recordOf, argumentChecks, writeNumber, logAfter}
 
 -- what a write on literal bytes opens, by name
 unfoldable of-writes : Type 0
-unfolding littleEndian bytesOf recordOf argumentChecks writeNumber logAfter firstOf busyOf probe goodWords
+unfolding of-samples littleEndian bytesOf probesField recordOf argumentChecks writeNumber logAfter
 of-writes = Unit {0}
 
 make : (profile oldway stamp : ℕ) → Asked
@@ -23,7 +22,7 @@ offered priority ontime lifetime =
 
 -- a sample of 16 words, all quiet but the first and the last
 sample : (first last : ℕ) → Asked
-sample first last = calls (words 9 (first ∷ replicate 14 0 ++ (last ∷ [])))
+sample first last = calls (words 9 1000 (first ∷ replicate 14 0 ++ (last ∷ [])))
 
 -- a log of so many bytes, each 255
 full : (bytes : ℕ) → List ℕ
@@ -48,7 +47,7 @@ make-bytes = refl
 
 -- "1 is a sample (identifier field = busy count)", all 32 bits of it
 count-bytes :
-    logAfter (full 17) 0 (calls (count 9 67305985))
+    logAfter (full 17) 0 (calls (count 9 67305985 1000))
     ≡ 1 ∷ 0 ∷ 0 ∷ 0 ∷ 0 ∷ 0 ∷ 0 ∷ 0 ∷ 1 ∷ 2 ∷ 3 ∷ 4 ∷ 9 ∷ 0 ∷ 0 ∷ 0 ∷ 255 ∷ []
 unfolding of-writes full
 count-bytes = refl
@@ -63,6 +62,25 @@ words-bytes :
 unfolding of-writes sample full
 words-bytes = refl
 
+-- "a sample's lifetime field is the probe count", and "The writer writes 1,000 as 0" (W-208): 513 of 1,027 probes, 2 of 65 by
+-- words, 1 of 3 and 1 of 4, which share no record
+probes-bytes :
+    map (logAfter (full 16) 0)
+    (calls (count 9 513 1027)
+    ∷ calls (words 9 65 (1 ∷ 1 ∷ []))
+    ∷ calls (words 9 3 (1 ∷ []))
+    ∷ calls (words 9 4 (1 ∷ []))
+    ∷ calls (count 9 1 1000)
+    ∷ [])
+    ≡ (1 ∷ 0 ∷ 0 ∷ 0 ∷ 3 ∷ 4 ∷ 0 ∷ 0 ∷ 1 ∷ 2 ∷ 0 ∷ 0 ∷ 9 ∷ 0 ∷ 0 ∷ 0 ∷ [])
+    ∷ (1 ∷ 0 ∷ 0 ∷ 0 ∷ 65 ∷ 0 ∷ 0 ∷ 0 ∷ 2 ∷ 0 ∷ 0 ∷ 0 ∷ 9 ∷ 0 ∷ 0 ∷ 0 ∷ [])
+    ∷ (1 ∷ 0 ∷ 0 ∷ 0 ∷ 3 ∷ 0 ∷ 0 ∷ 0 ∷ 1 ∷ 0 ∷ 0 ∷ 0 ∷ 9 ∷ 0 ∷ 0 ∷ 0 ∷ [])
+    ∷ (1 ∷ 0 ∷ 0 ∷ 0 ∷ 4 ∷ 0 ∷ 0 ∷ 0 ∷ 1 ∷ 0 ∷ 0 ∷ 0 ∷ 9 ∷ 0 ∷ 0 ∷ 0 ∷ [])
+    ∷ (1 ∷ 0 ∷ 0 ∷ 0 ∷ 0 ∷ 0 ∷ 0 ∷ 0 ∷ 1 ∷ 0 ∷ 0 ∷ 0 ∷ 9 ∷ 0 ∷ 0 ∷ 0 ∷ [])
+    ∷ []
+unfolding of-writes full
+probes-bytes = refl
+
 -- "3 a poll"
 poll-bytes :
     logAfter (full 16) 0 (calls (poll 4294967295))
@@ -74,32 +92,43 @@ poll-bytes = refl
 widths :
     map (writeNumber (full 16) 0)
     (make 256 0 9 ∷ make 255 1 9 ∷ make 1 2 9
-    ∷ calls (count 9 4294967296) ∷ calls (count 9 4294967295)
+    ∷ calls (count 9 4294967296 1000) ∷ calls (count 9 4294967295 1000)
+    ∷ calls (count 9 0 4294967296) ∷ calls (count 9 0 4294967295)
     ∷ offered 256 1 1 ∷ offered 255 1 1
     ∷ offered 0 65536 1 ∷ offered 0 65535 1
     ∷ offered 0 1 4294967296 ∷ offered 0 1 4294967295 ∷ [])
-    ≡ 1 ∷ 0 ∷ 1 ∷ 4 ∷ 0 ∷ 5 ∷ 0 ∷ 6 ∷ 0 ∷ 7 ∷ 0 ∷ []
+    ≡ 1 ∷ 0 ∷ 1 ∷ 4 ∷ 0 ∷ 4 ∷ 0 ∷ 5 ∷ 0 ∷ 6 ∷ 0 ∷ 7 ∷ 0 ∷ []
 unfolding of-writes make offered full
 widths = refl
 
--- width is judged, not worth: profile 0, a sample of 5,000 busy probes, priority 200, on-time and lifetime 0
+-- width is judged, not worth: profile 0, 5,000 busy of 1,000 probes, 20,000 probes, priority 200, on-time and lifetime 0
 not-worth :
-    map (writeNumber (full 16) 0) (make 0 0 9 ∷ calls (count 9 5000) ∷ offered 200 0 0 ∷ []) ≡ 0 ∷ 0 ∷ 0 ∷ []
+    map (writeNumber (full 16) 0) (make 0 0 9 ∷ calls (count 9 5000 1000) ∷ calls (count 9 0 20000) ∷ offered 200 0 0 ∷ [])
+    ≡ 0 ∷ 0 ∷ 0 ∷ 0 ∷ []
 unfolding of-writes make offered full
 not-worth = refl
 
--- "A bad sample by words is refused with 4": a bit above bit 39 in the last word; too few words
-bad-words : map (writeNumber (full 16) 0) (sample 0 (2 ^ 40) ∷ calls (words 9 []) ∷ []) ≡ 4 ∷ 4 ∷ []
+-- "A bad sample by words is refused with 4": a bit above bit 39 in the last word; too few words; other probe counts
+bad-words :
+    map (writeNumber (full 16) 0)
+    (sample 0 (2 ^ 40) ∷ calls (words 9 1000 []) ∷ calls (words 9 0 []) ∷ calls (words 9 1 (2 ∷ [])) ∷ calls (words 9 1 (1 ∷ []))
+    ∷ [])
+    ≡ 4 ∷ 4 ∷ 4 ∷ 4 ∷ 0 ∷ []
 unfolding of-writes sample full
 bad-words = refl
+
+-- the writer "refuses a probe count of 0 with 4" (W-208)
+no-probes : map (writeNumber (full 16) 0) (calls (count 9 0 0) ∷ calls (count 9 5 0) ∷ calls (count 9 5 1) ∷ []) ≡ 4 ∷ 4 ∷ 0 ∷ []
+unfolding of-writes full
+no-probes = refl
 
 -- "lowest first": 5 before 6 before 7; "after those, a place without 16 bytes with 12"
 order :
     map (writeNumber (full 15) 0)
     (offered 256 65536 4294967296 ∷ offered 0 65536 4294967296 ∷ offered 0 0 4294967296 ∷ offered 0 0 0
     ∷ make 256 2 9 ∷ make 1 2 9 ∷ make 1 1 9
-    ∷ sample 0 (2 ^ 40) ∷ sample 0 0 ∷ calls (count 9 0) ∷ calls (poll 9) ∷ [])
-    ≡ 5 ∷ 6 ∷ 7 ∷ 12 ∷ 1 ∷ 1 ∷ 12 ∷ 4 ∷ 12 ∷ 12 ∷ 12 ∷ []
+    ∷ sample 0 (2 ^ 40) ∷ sample 0 0 ∷ calls (count 9 0 0) ∷ calls (count 9 0 1000) ∷ calls (poll 9) ∷ [])
+    ≡ 5 ∷ 6 ∷ 7 ∷ 12 ∷ 1 ∷ 1 ∷ 12 ∷ 4 ∷ 12 ∷ 4 ∷ 12 ∷ 12 ∷ []
 unfolding of-writes make offered sample full
 order = refl
 
@@ -132,13 +161,24 @@ ignored-zeroed :
     ∷ [])
     ≡ (3 ∷ 0 ∷ 0 ∷ 0 ∷ 0 ∷ 0 ∷ 0 ∷ 0 ∷ 0 ∷ 0 ∷ 0 ∷ 0 ∷ 12 ∷ 13 ∷ 14 ∷ 15 ∷ [])
     ∷ (0 ∷ 2 ∷ 0 ∷ 0 ∷ 1 ∷ 0 ∷ 0 ∷ 0 ∷ 0 ∷ 0 ∷ 0 ∷ 0 ∷ 12 ∷ 13 ∷ 14 ∷ 15 ∷ [])
-    ∷ (1 ∷ 0 ∷ 0 ∷ 0 ∷ 0 ∷ 0 ∷ 0 ∷ 0 ∷ 8 ∷ 9 ∷ 10 ∷ 11 ∷ 12 ∷ 13 ∷ 14 ∷ 15 ∷ [])
+    ∷ (1 ∷ 0 ∷ 0 ∷ 0 ∷ 4 ∷ 5 ∷ 6 ∷ 7 ∷ 8 ∷ 9 ∷ 10 ∷ 11 ∷ 12 ∷ 13 ∷ 14 ∷ 15 ∷ [])
     ∷ (2 ∷ 1 ∷ 2 ∷ 3 ∷ 4 ∷ 5 ∷ 6 ∷ 7 ∷ 8 ∷ 9 ∷ 10 ∷ 11 ∷ 12 ∷ 13 ∷ 14 ∷ 15 ∷ [])
     ∷ []
-unfolding of-writes again askedBy recordAt fourAt twoAt
+unfolding of-writes again probesIn askedBy recordAt fourAt twoAt
 ignored-zeroed = refl
 
 -- a kind 0 whose lifetime is neither 0 nor 1 does not come back: 1
 no-way : writeNumber (full 16) 0 (askedBy (recordAt (0 ∷ 1 ∷ 0 ∷ 0 ∷ 2 ∷ replicate 11 0) 0)) ≡ 1
-unfolding of-writes full askedBy recordAt fourAt twoAt
+unfolding of-writes full probesIn askedBy recordAt fourAt twoAt
 no-way = refl
+
+-- a sample's record with 0, 999, 1,000 and 20,000 as its lifetime: "a record that says 1,000 reads alike and is outside W-206's way
+-- back" (W-208): it comes back as 0
+sampled : (low high : ℕ) → List ℕ
+sampled low high = 1 ∷ 0 ∷ 0 ∷ 0 ∷ low ∷ high ∷ 0 ∷ 0 ∷ 7 ∷ replicate 7 0
+
+probes-again :
+    map again (sampled 0 0 ∷ sampled 231 3 ∷ sampled 232 3 ∷ sampled 32 78 ∷ [])
+    ≡ sampled 0 0 ∷ sampled 231 3 ∷ sampled 0 0 ∷ sampled 32 78 ∷ []
+unfolding of-writes again sampled probesIn askedBy recordAt fourAt twoAt
+probes-again = refl

@@ -7,7 +7,7 @@ use mathlib.Core.List.{List, [], _∷_, _++_, map}
 use lib.Dec.{eqb, leb, ltb}
 use lib.ListN.{length, take, drop}
 use Rattle.rules.specs.Refusals.{Check, check, firstOf, NoneHolds, Exact}
-use Rattle.rules.specs.Samples.{probes, busyOf, goodWords}
+use Rattle.rules.specs.Samples.{usualProbes, busyOf, goodWords}
 use Rattle.model.specs.declared.Offer.{Offer}
 use Rattle.model.specs.declared.Answer.{Answer}
 use Rattle.model.specs.Calls.{Call, words, count, offer, poll, stampOf}
@@ -35,10 +35,15 @@ bytesOf rec =
     ++ littleEndian 4 (rec .id)
     ++ littleEndian 4 (rec .stamp)
 
--- "1 is a sample (identifier field = busy count)"; "ignored fields written as zero"
-abbrev pub sampleRecord : (stamp busy : ℕ) → Record
-sampleRecord stamp busy =
-    record { kind = 1; priority = 0; ontime = 0; lifetime = 0; id = busy; stamp = stamp }
+-- "The writer writes 1,000 as 0" (document 02, W-208): the lifetime field for so many probes
+unfoldable pub probesField : (probes : ℕ) → ℕ
+probesField probes = cond (eqb probes usualProbes) 0 probes
+
+-- "1 is a sample (identifier field = busy count)"; "a sample's lifetime field is the probe count" (W-208);
+-- "ignored fields written as zero"
+abbrev pub sampleRecord : (stamp busy probes : ℕ) → Record
+sampleRecord stamp busy probes =
+    record { kind = 1; priority = 0; ontime = 0; lifetime = probesField probes; id = busy; stamp = stamp }
 
 -- "2 an offer", which ignores no field
 abbrev pub offerRecord : (stamp : ℕ) → Offer → Record
@@ -63,8 +68,8 @@ blankRecord kind stamp =
 unfoldable pub recordOf : Asked → Record
 recordOf (makes m) =
     record { kind = 0; priority = m .profile; ontime = 0; lifetime = m .oldway; id = 0; stamp = m .stamp }
-recordOf (calls (words stamp ws)) = sampleRecord stamp (busyOf ws probes)
-recordOf (calls (count stamp busy)) = sampleRecord stamp busy
+recordOf (calls (words stamp probes ws)) = sampleRecord stamp (busyOf ws probes) probes
+recordOf (calls (count stamp busy probes)) = sampleRecord stamp busy probes
 recordOf (calls (offer stamp o)) = offerRecord stamp o
 recordOf (calls (poll stamp)) = blankRecord 3 stamp
 recordOf unknown = blankRecord 4 0
@@ -76,6 +81,12 @@ tooWide bytes n = leb (256 ^ bytes) n
 -- 1: the profile, and a yes-or-no that is neither
 abbrev pub makeWidths : (profile oldway : ℕ) → List Check
 makeWidths profile oldway = check 1 (tooWide 1 profile) ∷ check 1 (ltb 1 oldway) ∷ []
+
+-- 4: a sample's busy count and probe count; the writer "refuses a probe count of 0 with 4" (W-208), which would
+-- be read as 1,000
+abbrev pub countWidths : (busy probes : ℕ) → List Check
+countWidths busy probes =
+    check 4 (tooWide 4 busy) ∷ check 4 (tooWide 4 probes) ∷ check 4 (eqb probes 0) ∷ []
 
 -- 5, 6 and 7: an offer's priority, on-time and lifetime
 abbrev pub offerWidths : Offer → List Check
@@ -89,8 +100,8 @@ offerWidths o =
 -- lowest first"; what no kind asks gets 10, as its record does in a log
 unfoldable pub argumentChecks : Asked → List Check
 argumentChecks (makes m) = makeWidths (m .profile) (m .oldway)
-argumentChecks (calls (words stamp ws)) = check 4 (not (goodWords ws)) ∷ []
-argumentChecks (calls (count stamp busy)) = check 4 (tooWide 4 busy) ∷ []
+argumentChecks (calls (words stamp probes ws)) = check 4 (not (goodWords probes ws)) ∷ []
+argumentChecks (calls (count stamp busy probes)) = countWidths busy probes
 argumentChecks (calls (offer stamp o)) = offerWidths o
 argumentChecks (calls (poll stamp)) = []
 argumentChecks unknown = check 10 true ∷ []
@@ -130,8 +141,8 @@ In32 n = n < 256 ^ 4
 
 -- an offer's identifier; the other calls have none
 abbrev pub IdIn32 : Call → Type 0
-IdIn32 (words stamp ws) = Unit {0}
-IdIn32 (count stamp busy) = Unit {0}
+IdIn32 (words stamp probes ws) = Unit {0}
+IdIn32 (count stamp busy probes) = Unit {0}
 IdIn32 (offer stamp o) = In32 (o .id)
 IdIn32 (poll stamp) = Unit {0}
 
@@ -143,8 +154,8 @@ Narrow unknown = Unit {0}
 
 -- "a sample by words as one by its count"
 abbrev pub byCount : Call → Call
-byCount (words stamp ws) = count stamp (busyOf ws probes)
-byCount (count stamp busy) = count stamp busy
+byCount (words stamp probes ws) = count stamp (busyOf ws probes) probes
+byCount (count stamp busy probes) = count stamp busy probes
 byCount (offer stamp o) = offer stamp o
 byCount (poll stamp) = poll stamp
 
@@ -195,11 +206,12 @@ LogPlaysBack =
     (s : State) (made : List Asked) → AllWritten made
     → outputFrom s (logOf made) ≡ answerLines s made ++ line (ascii "END")
 
--- "a record of kind 0 to 3 with ignored fields zero, and 0 or 1 as a kind 0's lifetime"
+-- "a record of kind 0 to 3 with ignored fields zero, and 0 or 1 as a kind 0's lifetime"; of kind 1 "a record
+-- that says 1,000 reads alike and is outside W-206's way back" (W-208)
 pub record Plain (rec : Record) : Type 0 where
   pub known : rec .kind ≤ 3
   pub make : rec .kind ≡ 0 → (rec .lifetime ≤ 1) × (rec .ontime ≡ 0) × (rec .id ≡ 0)
-  pub sample : rec .kind ≡ 1 → (rec .priority ≡ 0) × (rec .ontime ≡ 0) × (rec .lifetime ≡ 0)
+  pub sample : rec .kind ≡ 1 → (rec .priority ≡ 0) × (rec .ontime ≡ 0) × (rec .lifetime ≡ usualProbes → ⊥)
   pub poll : rec .kind ≡ 3 → (rec .priority ≡ 0) × (rec .ontime ≡ 0) × (rec .lifetime ≡ 0) × (rec .id ≡ 0)
 
 -- a log of bytes
@@ -225,10 +237,11 @@ pub record ThereAndBack (log : List ℕ) (at : ℕ) : Type 0 where
 abbrev pub BackExactly : Type 0
 BackExactly = (log : List ℕ) (at : ℕ) → Bytes log → at + recordBytes ≤ length log → ThereAndBack log at
 
--- two samples by words, both good, with the same busy count
-pub record Alike (ws ws′ : List ℕ) : Type 0 where
-  pub good : goodWords ws ≡ true
-  pub good′ : goodWords ws′ ≡ true
+-- two samples by words, both good, with the same busy count; "W-206's statement about equal counts now needs
+-- equal probe counts too" (W-208)
+pub record Alike (probes : ℕ) (ws ws′ : List ℕ) : Type 0 where
+  pub good : goodWords probes ws ≡ true
+  pub good′ : goodWords probes ws′ ≡ true
   pub busy : busyOf ws probes ≡ busyOf ws′ probes
 
 -- "two good ones with the same count and stamp share a record": what is answered and what is written
@@ -240,8 +253,8 @@ pub record Shared (log : List ℕ) (at : ℕ) (a b : Asked) : Type 0 where
 -- at every place of every log, refused or not
 abbrev pub ShareRecord : Type 0
 ShareRecord =
-    (log : List ℕ) (at stamp : ℕ) (ws ws′ : List ℕ) → Alike ws ws′
-    → Shared log at (calls (words stamp ws)) (calls (words stamp ws′))
+    (log : List ℕ) (at stamp probes : ℕ) (ws ws′ : List ℕ) → Alike probes ws ws′
+    → Shared log at (calls (words stamp probes ws)) (calls (words stamp probes ws′))
 
 -- the answers alone
 abbrev pub answersOn : State → List Call → List Answer
@@ -256,11 +269,11 @@ pub record SameAfter (s : State) (a b : Call) (behind : List Call) : Type 0 wher
 -- a good sample by words and the one by its count, which is what is written
 abbrev pub CountAnswersAlike : Type 0
 CountAnswersAlike =
-    (s : State) (stamp : ℕ) (ws : List ℕ) → goodWords ws ≡ true → (behind : List Call)
-    → SameAfter s (words stamp ws) (count stamp (busyOf ws probes)) behind
+    (s : State) (stamp probes : ℕ) (ws : List ℕ) → goodWords probes ws ≡ true → (behind : List Call)
+    → SameAfter s (words stamp probes ws) (count stamp (busyOf ws probes) probes) behind
 
--- two good ones with the same count and stamp
+-- two good ones with the same counts and stamp
 abbrev pub AlikeAnswerAlike : Type 0
 AlikeAnswerAlike =
-    (s : State) (stamp : ℕ) (ws ws′ : List ℕ) → Alike ws ws′ → (behind : List Call)
-    → SameAfter s (words stamp ws) (words stamp ws′) behind
+    (s : State) (stamp probes : ℕ) (ws ws′ : List ℕ) → Alike probes ws ws′ → (behind : List Call)
+    → SameAfter s (words stamp probes ws) (words stamp probes ws′) behind

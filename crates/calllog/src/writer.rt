@@ -10,7 +10,7 @@ ghost use Rattle.model.specs.Calls.{words, count, offer, poll};
 ghost use Rattle.calllog.specs.Records.{makes, calls};
 ghost use Rattle.calllog.specs.Buffers.{written};
 ghost use Rattle.calllog.specs.Writing.{littleEndian, bytesOf, makeWidths, offerWidths};
-ghost use Rattle.calllog.specs.Writing.{placeChecks, sampleRecord, unlessRefused, Wrote};
+ghost use Rattle.calllog.specs.Writing.{placeChecks, probesField, sampleRecord, unlessRefused, Wrote};
 use crate::RECORD_BYTES;
 use crate::Record;
 use model::Offer;
@@ -145,36 +145,54 @@ pub fn write_make(profile: u32, oldway: u32, stamp: u32, log: &mut [u8], at: usi
     write_unless(make_refusal(profile, oldway), rec, log, at)
 }
 
-fn sample_record(busy: u32, stamp: u32) -> Record
-    ensures { λ r. ⌜ r ≡ sampleRecord stamp busy ⌝ }
+// The lifetime field of a sample: its probe count, and 0 for 1,000.
+fn probes_field(probes: u32) -> u32
+    ensures { λ r. ⌜ r ≡ probesField probes ⌝ }
+{
+    rules::pick(probes == rules::USUAL_PROBES, 0, probes)
+}
+
+fn sample_record(busy: u32, probes: u32, stamp: u32) -> Record
+    ensures { λ r. ⌜ r ≡ sampleRecord stamp busy probes ⌝ }
 {
     Record {
         kind: 1,
         priority: 0,
         ontime: 0,
-        lifetime: 0,
+        lifetime: probes_field(probes),
         id: busy,
         stamp,
     }
 }
 
+// A busy count and a probe count always fit their four bytes; but 0 probes would be read as 1,000.
+fn count_refusal(probes: u32) -> u32
+    ensures { λ r. ⌜ r ≡ cond (eqb probes 0) 4 0 ⌝ }
+{
+    if probes == 0 {
+        return BAD_SAMPLE;
+    }
+    0
+}
+
 // Writes a sample by words, as the one by its busy count.
-pub fn write_sample_words(probes: &[u64], stamp: u32, log: &mut [u8], at: usize) -> u32
-    ensures { λ r. ⌜ Wrote (now (log .entry)) at (calls (words stamp (now (probes .entry)))) r
+pub fn write_sample_words(probes: u32, ws: &[u64], stamp: u32, log: &mut [u8], at: usize) -> u32
+    ensures { λ r. ⌜ Wrote (now (log .entry)) at (calls (words stamp probes (now (ws .entry)))) r
         (now (log .exit)) ⌝ }
 {
-    let sample = rules::read_sample(probes);
+    let sample = rules::read_sample(probes, ws);
     match sample {
-        Sample::Busy(busy) => write_unless(0, sample_record(busy, stamp), log, at),
-        Sample::Bad => write_unless(BAD_SAMPLE, sample_record(0, stamp), log, at),
+        Sample::Busy(busy) => write_unless(0, sample_record(busy, probes, stamp), log, at),
+        Sample::Bad => write_unless(BAD_SAMPLE, sample_record(0, probes, stamp), log, at),
     }
 }
 
-// Writes a sample by its busy count, which always fits its four bytes.
-pub fn write_sample_count(busy: u32, stamp: u32, log: &mut [u8], at: usize) -> u32
-    ensures { λ r. ⌜ Wrote (now (log .entry)) at (calls (count stamp busy)) r (now (log .exit)) ⌝ }
+// Writes a sample by its busy count, of so many probes.
+pub fn write_sample_count(busy: u32, probes: u32, stamp: u32, log: &mut [u8], at: usize) -> u32
+    ensures { λ r. ⌜ Wrote (now (log .entry)) at (calls (count stamp busy probes)) r (now (log .exit)) ⌝ }
 {
-    write_unless(0, sample_record(busy, stamp), log, at)
+    let refusal = count_refusal(probes);
+    write_unless(refusal, sample_record(busy, probes, stamp), log, at)
 }
 
 // Writes an offer.

@@ -1,15 +1,21 @@
--- The record is the sample's, whose count of 32 bits is not too wide.
+-- The record is the sample's, whose counts of 32 bits are not too wide; no probes are refused.
+use mathlib.Core.Path.{_≡_, sym, _∙_}
+use mathlib.Core.Bool.{cond}
 use native.Mathlib.Omega.{arith}
 use borrow.Author.Tests.{lt-leb}
 use denote.Ref.{now}
+use lib.Dec.{eqb}
 use Rattle.rules.specs.Refusals.{firstOf}
 use Rattle.model.specs.Calls.{count}
 use Rattle.calllog.specs.Records.{calls}
-use Rattle.calllog.specs.Writing.{recordOf, argumentChecks}
+use Rattle.calllog.specs.Writing.{countWidths, recordOf, argumentChecks}
 use Rattle.calllog.proofs.Writing.{judged}
 use borrow.Author.Needs.{needs}
 use Rattle.calllog.proofs.writer.write_sample_count.Statement.{statement}
 use Rattle.calllog.proofs.writer.write_sample_count.Tie as tie
+
+count-refusal-requires : tie.Need-count-refusal-requires
+count-refusal-requires c κs = search needs
 
 sample-record-requires : tie.Need-sample-record-requires
 sample-record-requires c κs = search needs
@@ -25,14 +31,23 @@ unfolding recordOf argumentChecks firstOf
 returns c =
     let w = c .before .before in
     let m = w .before .before in
-    let a = m .before .before .args in
-    judged (now (a .log)) (a .at) (calls (count (a .stamp) (a .busy)))
-    0 (w .write-unless .result) _ _
-    (simp (lt-leb 4294967296 (a .busy) (omega arith)))
+    let r = m .before in
+    let a = r .before .before .args in
+    let fit : firstOf (countWidths (a .busy) (a .probes)) ≡ cond (eqb (a .probes) 0) 4 0 =
+    simp (lt-leb 4294967296 (a .busy) (omega arith), lt-leb 4294967296 (a .probes) (omega arith)) in
+    judged (now (a .log)) (a .at) (calls (count (a .stamp) (a .busy) (a .probes)))
+    (r .count-refusal .result) (w .write-unless .result) _ _
+    (r .count-refusal .ensures ∙ sym fit)
     (λ z. m .sample-record .ensures)
     (w .write-unless .ensures .0)
     (w .write-unless .ensures .1)
 
 pub write-sample-count-spec : {M : Type 1} → statement M
 write-sample-count-spec =
-    tie.close (tie.spec sample-record-requires write-unless-requires same-length returns)
+    tie.close
+    (tie.spec
+    count-refusal-requires
+    sample-record-requires
+    write-unless-requires
+    same-length
+    returns)

@@ -1,4 +1,5 @@
 -- A good sample's record is that of its busy count; a bad one is refused, whatever its record.
+use Prim.Native.Nat.{ℕ}
 use mathlib.Core.Path.{sym, ap, _∙_}
 use native.Mathlib.Omega.{arith}
 use denote.Ref.{now}
@@ -44,11 +45,11 @@ returns c =
     let k = m .before .before in
     let r = k .before .before in
     let a = r .before .before .before .args in
-    let good = read-good (now (a .probes)) (k .sample .given .0 .0) (sym (r .read-sample .ensures) ∙ k .sample .given .1) in
-    judged (now (a .log)) (a .at) (calls (words (a .stamp) (now (a .probes))))
+    let good = read-good (a .probes) (now (a .ws)) (k .sample .given .0 .0) (sym (r .read-sample .ensures) ∙ k .sample .given .1) in
+    judged (now (a .log)) (a .at) (calls (words (a .stamp) (a .probes) (now (a .ws))))
     0 (w .write-unless .result) _ _
     (simp (good .0))
-    (λ z. m .sample-record .ensures ∙ ap (sampleRecord (a .stamp)) (sym (good .1)))
+    (λ z. m .sample-record .ensures ∙ ap (λ (busy : ℕ). sampleRecord (a .stamp) busy (a .probes)) (sym (good .1)))
     (w .write-unless .ensures .0)
     (w .write-unless .ensures .1)
 
@@ -62,8 +63,8 @@ returns-2 c =
     let k = w .before .before .before in
     let r = k .before .before in
     let a = r .before .before .before .args in
-    let bad = read-bad (now (a .probes)) (sym (r .read-sample .ensures) ∙ k .enum-told .given .1) in
-    judged (now (a .log)) (a .at) (calls (words (a .stamp) (now (a .probes))))
+    let bad = read-bad (a .probes) (now (a .ws)) (sym (r .read-sample .ensures) ∙ k .enum-told .given .1) in
+    judged (now (a .log)) (a .at) (calls (words (a .stamp) (a .probes) (now (a .ws))))
     4 (w .write-unless2 .result) _ _
     (simp bad)
     (λ z. absurd (omega arith))
