@@ -1,7 +1,7 @@
 -- A list in order of arrival is sound exactly if its four parts are: each rule of a packet goes from the list to its parts and
 -- back, and five to a priority is what each part's length says.
 use Prim.Native.Nat.{ℕ, _+_, _≤_, _<_}
-use mathlib.Core.Path.{_≡_, refl, sym}
+use mathlib.Core.Path.{_≡_, refl, sym, subst}
 use mathlib.Core.Bool.{Bool, true, false}
 use mathlib.Core.List.{List, [], _∷_}
 use native.Mathlib.Omega.{arith}
@@ -10,15 +10,15 @@ use lib.ListN.{length}
 use borrow.Author.Tests.{eqb-true, le-leb, eq-eqb}
 use Rattle.rules.specs.Tests.{allOf}
 use Rattle.rules.specs.Profiles.{lastPriority, ontimeAllowed, lifetimeAllowed, room}
-use Rattle.rules.proofs.Cases.{on-cond, both}
+use Rattle.rules.proofs.Cases.{on-cond, clash, both}
 use Rattle.rules.proofs.Tests.{tested, all-true}
 use Rattle.model.specs.declared.Packet.{Packet}
-use Rattle.model.specs.Packets.{limitRules, inOrder}
+use Rattle.model.specs.Packets.{limitRules, inOrder, chosen}
 use Rattle.model.specs.Queues.{queueSound, queueRules}
 use Rattle.model.specs.Claims.{All}
 use Rattle.model.proofs.Orders.{InOrder, test-order, order-test, order-more}
 use Rattle.model.proofs.SoundQueues.{Own, Queued, test-queued, queued-test}
-use Rattle.line.specs.Line.{countOf, allowedPacket, atMostFive, listRules}
+use Rattle.line.specs.Line.{countOf, goesBefore, best, picked, allowedPacket, atMostFive, listRules}
 use Rattle.line.specs.Same.{of, parted}
 use Rattle.line.proofs.Parts.{by-four, Came, Arrived, count-of, length-parted}
 
@@ -44,6 +44,24 @@ pub test-arrived : (profile now : ℕ) (ps : List Packet) → inOrder (allowedPa
 test-arrived profile now ps e =
     order-more (Good profile now) (Came now) (λ p h. h .0) 0 0 ps (omega arith)
     (test-order (allowedPacket profile now) (Good profile now) (test-good profile now) 0 ps e)
+
+-- the packet picked is one of them, so it is within its limits
+best-good : (P : Packet → Type 0) (since : ℕ) (p : Packet) (ps : List Packet) → P p → InOrder P since ps → P (best p ps)
+unfolding best
+best-good P since p [] h k = h
+best-good P since p (q ∷ qs) h k =
+    on-cond P (goesBefore q p) (λ e. best-good P (q .arrival) q qs (k .0) (k .2)) (λ e. best-good P (q .arrival) p qs h (k .2))
+
+pub picked-ontime : (profile now : ℕ) (ps : List Packet) (p : Packet) (left : List Packet)
+    → allOf (listRules profile now ps) ≡ true → picked ps ≡ chosen p left → ontimeAllowed profile (p .ontime) ≡ true
+unfolding picked
+picked-ontime profile now [] p left e f = clash (cc)
+picked-ontime profile now (q ∷ qs) p left e f =
+    let h = test-order (allowedPacket profile now) (Good profile now) (test-good profile now) 0 (q ∷ qs)
+    (all-true (listRules profile now (q ∷ qs)) e .0) in
+    let same : best q qs ≡ p = cc in
+    subst (λ (x : Packet). ontimeAllowed profile (x .ontime) ≡ true) same
+    (best-good (Good profile now) (q .arrival) q qs (h .0) (h .2) .1 .0)
 
 -- a list's part
 part-order : (profile now n since less : ℕ) (ps : List Packet) → less ≤ since → InOrder (Good profile now) since ps

@@ -4,13 +4,15 @@ use Prim.Native.Nat.{ℕ}
 use mathlib.Core.Path.{_≡_}
 use mathlib.Core.Bool.{Bool, true, cond, _&&_}
 use mathlib.Core.List.{List}
+use Rattle.rules.specs.Tests.{allOf}
 use Rattle.rules.specs.Clock.{stepOf, goesBack, passesEnd}
 use Rattle.control.specs.Control.{controlOf}
 use Rattle.model.specs.declared.Answer.{Answer}
 use Rattle.model.specs.declared.Answer.the-variants.{Refused}
 use Rattle.model.specs.Calls.{Call, Making, isRefused}
 use Rattle.model.specs.declared.Admission.{Admission}
-use Rattle.model.specs.Ledger.{spacedOut}
+use Rattle.model.specs.declared.Last.{Last}
+use Rattle.model.specs.Ledger.{places, ledgerRules}
 use Rattle.model.specs.State.{statusFrom, sound}
 use Rattle.model.specs.Effects.{Result, stepped}
 use Rattle.model.specs.Gate.{makeIn, call}
@@ -53,11 +55,16 @@ soundState s = (tidy (s .line) && ledger.tidy (s .ledger)) && sound (viewOf s)
 abbrev pub Given : State → Type 0
 Given s = LaidOut s × (sound (viewOf s) ≡ true)
 
--- admissions in order of time, as a sound ledger has them
+-- admissions that a sound state had
 pub record InOrder (l : List Admission) : Type 0 where
   pub profile : ℕ
   pub now : ℕ
-  pub spaced : spacedOut profile now 0 l ≡ true
+  pub last : Last
+  pub rules : allOf (ledgerRules profile now last l) ≡ true
+
+-- "40 are enough" (document 02, W-207)
+abbrev pub forty : ℕ
+forty = places
 
 -- the next state and the answer, side by side
 abbrev pub outcome : State → Answer → Outcome

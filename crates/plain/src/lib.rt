@@ -1,21 +1,26 @@
 // The plain engine: the gate with one list of packets in order of arrival, written to be read (document 02,
 // W-212).
 ghost use mathlib.Core.Path.{_≡_};
-ghost use mathlib.Core.Bool.{true};
+ghost use mathlib.Core.Bool.{true, _&&_};
+ghost use lib.Dec.{leb, eqb};
+ghost use lib.ListN.{length};
 ghost use Prim.Native.Nat.{_≤_, _<_, max};
-ghost use Rattle.rules.specs.Profiles.{lastPriority, mostOffers};
+ghost use Rattle.rules.specs.Profiles.{lastPriority, room};
 ghost use Rattle.rules.specs.Refusals.{firstOf};
 ghost use Rattle.control.specs.Control.{controlOf};
 ghost use Rattle.model.specs.declared.Answer.the-variants.{Refused};
 ghost use Rattle.model.specs.Calls.{words, count, offer, poll};
-ghost use Rattle.model.specs.Ledger.{places};
 ghost use Rattle.model.specs.State.{blank, notLive};
 ghost use Rattle.model.specs.Effects.{moved, refreshed, roomMade, joined, waitLeft, airLeft, admits};
 ghost use Rattle.model.specs.Gate.{roomChecks};
 ghost use Rattle.line.specs.Line.{countOf, without};
-ghost use Rattle.line.specs.Layout.{items};
+ghost use Rattle.line.specs.Layout.{places, items};
 ghost use Rattle.plain.specs.Layout.{viewOf, stateOf, LaidOut, soundState, Given, outcome, callOn};
-ghost use Rattle.plain.specs.Layout.{makeState, entryNumber};
+ghost use Rattle.plain.specs.Layout.{makeState, entryNumber, forty};
+ghost use Rattle.plain.specs.Bursts.{offeredBy, burstState, burstAnswers};
+ghost use Rattle.calllog.specs.Bursts.{burstNumber};
+ghost use Rattle.plain.specs.Runs.{Agrees};
+use calllog::Record;
 use control::Tuning;
 use ledger::Ledger;
 use line::Line;
@@ -48,6 +53,24 @@ pub struct State {
 pub struct Outcome {
     pub state: State,
     pub answer: Answer,
+}
+
+// Whether an offer is refused for lack of room: only in an engine made in the old way.
+fn refuses_full(oldway: u32, l: Line, priority: u32) -> bool
+    requires { ⌜ l .len ≤ places ⌝ }
+    ensures { λ r. ⌜ r ≡ (eqb oldway 1 && leb room (countOf priority (items l))) ⌝ }
+{
+    if oldway != 1 {
+        return false;
+    }
+    line::MOST_OF_A_PRIORITY <= line::count_of(l, priority)
+}
+
+// What a burst leaves: the state, and the number that refuses it, or 0.
+#[repr(C)]
+pub struct BurstTurn {
+    pub state: State,
+    pub number: u32,
 }
 
 impl State {
@@ -156,9 +179,9 @@ impl State {
         if rules::is_bad_count(busy, probes) {
             return self.refused(4);
         }
+        let tuning = control::tuning_after(self.profile, self.tuning, rules::load(busy, probes));
         let mut s = self.advance(stamp);
-        let tuning = s.tuning;
-        s.tuning = control::tuning_after(s.profile, tuning, rules::load(busy, probes));
+        s.tuning = tuning;
         Outcome {
             state: s,
             answer: Answer::Taken,
@@ -166,10 +189,10 @@ impl State {
     }
 
     // A sample by words. A bad one goes by a count that is as bad: one busy of no probes.
-    pub fn sample_words(mut self, probes: u32, bits: &[u64], stamp: u32) -> Outcome
-        ensures { λ r. ⌜ r ≡ callOn self (words stamp probes (now (bits .entry))) ⌝ }
+    pub fn sample_words(mut self, probes: u32, ws: &[u64], stamp: u32) -> Outcome
+        ensures { λ r. ⌜ r ≡ callOn self (words stamp probes (now (ws .entry))) ⌝ }
     {
-        let sample = rules::read_sample(probes, bits);
+        let sample = rules::read_sample(probes, ws);
         match sample {
             Sample::Busy(busy) => self.sample_count(busy, probes, stamp),
             Sample::Bad => self.sample_count(1, 0, stamp),
@@ -183,8 +206,7 @@ impl State {
         ensures { λ r. ⌜ r ≡ firstOf (roomChecks (self .oldway) (countOf priority (items (self .line)))
             (self .counts .accepted)) ⌝ }
     {
-        let full = line::MOST_OF_A_PRIORITY <= line::count_of(self.line, priority);
-        if self.oldway == 1 && full {
+        if refuses_full(self.oldway, self.line, priority) {
             return 8;
         }
         if rules::MOST_OFFERS <= self.counts.accepted {
@@ -201,11 +223,11 @@ impl State {
     {
         let mut line = self.line;
         let mut counts = self.counts;
+        counts.accepted += 1;
         if line::MOST_OF_A_PRIORITY <= line::count_of(line, p.priority) {
             line = line::remove(line, p.priority);
             counts.displaced += 1;
         }
-        counts.accepted += 1;
         self.line = line::push(line, p);
         self.counts = counts;
         self
@@ -251,7 +273,7 @@ impl State {
     // A packet goes: it leaves the line and is noted as the last admission.
     fn admit(mut self, p: Packet) -> State
         requires { ⌜ Given self ⌝ }
-        requires { ⌜ self .ledger .len < places ⌝ }
+        requires { ⌜ self .ledger .len < forty ⌝ }
         ensures { λ r. ⌜ r ≡ stateOf (admits (viewOf self) p (without (p .priority) (items (self .line)))) ⌝ }
     {
         let now = self.clock.time;
@@ -297,6 +319,46 @@ impl State {
             answer: Answer::Sent(p),
         }
     }
+}
+
+// A record of a burst done on a state: an offer, or refused with 10.
+fn offered(mut state: State, rec: Record) -> Outcome
+    ensures { λ r. ⌜ r ≡ offeredBy state rec ⌝ }
+{
+    if rec.kind != 2 {
+        return state.refused(10);
+    }
+    let o = Offer {
+        id: rec.id,
+        priority: rec.priority,
+        ontime: rec.ontime,
+        lifetime: rec.lifetime,
+    };
+    state.offer(o, rec.stamp)
+}
+
+// The offers of a slice of records, one after the other, with an answer byte for each.
+pub fn burst(mut state: State, records: &[u8], answers: &mut [u8]) -> BurstTurn
+    ensures number { λ r. ⌜ r .number ≡ burstNumber (length (now (records .entry)))
+        (length (now (answers .entry))) ⌝ }
+    ensures state { λ r. ⌜ r .state ≡ burstState state (now (records .entry)) (now (answers .entry)) ⌝ }
+    ensures answers { λ _. ⌜ now (answers .exit) ≡ burstAnswers state (now (records .entry))
+        (now (answers .entry)) ⌝ }
+{
+    let number = calllog::burst_refusal(records.len(), answers.len());
+    if number != 0 {
+        return BurstTurn { state, number };
+    }
+    let n = records.len() / calllog::RECORD_BYTES;
+    let mut i: usize = 0;
+    while i < n {
+        let rec = calllog::read_record(records, calllog::RECORD_BYTES * i);
+        let outcome = offered(state, rec);
+        state = outcome.state;
+        answers[i] = calllog::answer_byte(outcome.answer);
+        i += 1;
+    }
+    BurstTurn { state, number: 0 }
 }
 
 // A state with nothing waiting, nothing admitted and nothing counted.
@@ -345,6 +407,7 @@ fn refused_make() -> Outcome
 // A fresh state; the all-zero one with the refusal of a bad profile, or of a way that is neither 0 nor 1.
 pub fn make(profile: u32, oldway: u32, stamp: u32) -> Outcome
     ensures exact { λ r. ⌜ r ≡ makeState (record { profile = profile; oldway = oldway; stamp = stamp }) ⌝ }
+    ensures same { λ r. ⌜ Agrees r (record { profile = profile; oldway = oldway; stamp = stamp }) ⌝ }
 {
     if !rules::lies_within(rules::FIRST_PROFILE, rules::LAST_PROFILE, profile) {
         return refused_make();

@@ -1,44 +1,65 @@
+-- Make's outcome is the model's, laid out, and so every run from it is the gate's.
+use mathlib.Core.Path.{_≡_, sym, _∙_, subst⁻¹}
+use borrow.Author.Tests.{lt-ltb, le-ltb, not-true, not-false}
 use borrow.Author.Needs.{needs}
+use Rattle.rules.specs.Refusals.{firstOf}
+use Rattle.model.specs.Calls.{Making}
+use Rattle.model.specs.Gate.{makeIn}
+use Rattle.plain.specs.declared.Outcome.{Outcome}
+use Rattle.plain.specs.Layout.{makeState}
+use Rattle.plain.specs.Runs.{Agrees}
+use Rattle.plain.proofs.Runs.{make-agrees}
 use Rattle.plain.proofs.make.Statement.{statement}
 use Rattle.plain.proofs.make.Tie as tie
-use Rattle.plain.proofs.make.Reads as reads
-use Rattle.plain.proofs.make.Lts as lts
-use Rattle.control.proofs.fresh.Reads as fresh-reads
-use Rattle.plain.proofs.blank_state.Reads as blank-state-reads
-use Rattle.plain.proofs.refused_make.Reads as refused-make-reads
-use Rattle.rules.proofs.lies_within.Reads as lies-within-reads
 
--- src/lib.rt:349:9
+both-clauses : (o : Outcome) (m : Making) → o ≡ makeState m → (o ≡ makeState m) × Agrees o m
+both-clauses o m e = (e, subst⁻¹ (λ (x : Outcome). Agrees x m) e (make-agrees m))
+
 lies-within-requires : tie.Need-lies-within-requires
 lies-within-requires c κs = search needs
 
--- src/lib.rt:350:9
 refused-make-requires : tie.Need-refused-make-requires
 refused-make-requires c κs = search needs
 
--- src/lib.rt:350:9
 returns : tie.Need-returns
-returns c = ?
+unfolding makeState makeIn firstOf
+returns c =
+    let b = c .before in
+    both-clauses _ _ (rw (sym (b .before .lies-within .ensures) ∙ not-true _ (b .if1 .taken)) (c .refused-make .ensures))
 
--- src/lib.rt:353:9
 refused-make-requires-2 : tie.Need-refused-make-requires-2
 refused-make-requires-2 c κs = search needs
 
--- src/lib.rt:353:9
 returns-2 : tie.Need-returns-2
-returns-2 c = ?
+unfolding makeState makeIn firstOf
+returns-2 c =
+    let w = c .before in
+    let b = w .before in
+    both-clauses _ _
+    (rw (
+      sym (b .before .lies-within .ensures) ∙ not-false _ (b .if1 .left),
+      lt-ltb 1 (b .before .before .args .oldway) (w .if2 .taken),
+    )
+    (c .refused-make2 .ensures))
 
--- src/lib.rt:356:9
 fresh-requires : tie.Need-fresh-requires
 fresh-requires c κs = search needs
 
--- src/lib.rt:357:9
 blank-state-requires : tie.Need-blank-state-requires
 blank-state-requires c κs = search needs
 
--- src/lib.rt:346:1
 returns-3 : tie.Need-returns-3
-returns-3 c = ?
+unfolding makeState makeIn firstOf
+returns-3 c =
+    let w = c .before .before in
+    let b = w .before in
+    both-clauses _ _
+    (rw (
+      sym (b .before .lies-within .ensures) ∙ not-false _ (b .if1 .left),
+      le-ltb 1 (b .before .before .args .oldway) (w .if2 .left),
+      c .blank-state .ensures,
+      c .before .fresh .ensures,
+    ))
 
 pub make-spec : {M : Type 1} → statement M
 make-spec =

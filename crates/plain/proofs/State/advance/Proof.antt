@@ -1,21 +1,27 @@
+-- The clock moves, and the ledger is without what has aged.
+use Rattle.plain.proofs.Views.{known}
+use Rattle.plain.proofs.Doing.{advanced}
+use borrow.Author.Needs.{needs}
 use Rattle.plain.proofs.State.advance.Statement.{statement}
 use Rattle.plain.proofs.State.advance.Tie as tie
-use Rattle.plain.proofs.State.advance.Reads as reads
-use Rattle.plain.proofs.State.advance.Lts as lts
-use Rattle.decide.proofs.clock_at.Reads as clock-at-reads
-use Rattle.plain.proofs.second.age.Reads as age-reads
 
--- src/lib.rt:125:13
 clock-at-requires : tie.Need-clock-at-requires
-clock-at-requires c κs = ?
+clock-at-requires c κs = known _ (c .before .pre) .time
 
--- src/lib.rt:127:9
 age-requires : tie.Need-age-requires
-age-requires c κs = ?
+age-requires c κs =
+    let k = known _ (c .before .before .before .pre) in
+    (k .ledger-tight, k .ordered)
 
--- src/lib.rt:120:5
 returns : tie.Need-returns
-returns c = ?
+returns c =
+    let s = c .before .before .before .before in
+    advanced (s .args .self) (s .args .stamp) _ _ (s .pre .0) (c .before .before .clock-at .ensures) (c .age .ensures)
 
 pub advance-spec : {M : Type 1} → statement M
-advance-spec = tie.close (tie.spec clock-at-requires age-requires returns)
+advance-spec =
+    tie.close
+    (tie.spec
+    clock-at-requires
+    age-requires
+    returns)

@@ -1,70 +1,99 @@
+-- One group after the other: the first that fails makes the state unsound, and the ledger decides.
+use Prim.Native.Nat.{_≤_}
+use mathlib.Core.Path.{_≡_, sym, _∙_}
+use mathlib.Core.Bool.{true}
+use native.Mathlib.Omega.{arith}
+use lib.Dec.{leb}
+use borrow.Author.Tests.{le-leb, not-true, not-false}
+use Rattle.plain.proofs.Known.{forty-of}
+use Rattle.plain.proofs.Judged.{no, unsound-live, unsound-way, unsound-control, unsound-time, unsound-last, unsound-line}
+use Rattle.plain.proofs.Judged.{unsound-counts, in-time, by-ledger, ledger-tight, laid-out}
 use borrow.Author.Needs.{needs}
 use Rattle.plain.proofs.State.is_sound.Statement.{statement}
 use Rattle.plain.proofs.State.is_sound.Tie as tie
-use Rattle.plain.proofs.State.is_sound.Reads as reads
-use Rattle.plain.proofs.State.is_sound.Lts as lts
-use Rattle.control.proofs.is_sound.Reads as is-sound-reads
-use Rattle.decide.proofs.are_counts_sound.Reads as are-counts-sound-reads
-use Rattle.decide.proofs.is_last_sound.Reads as is-last-sound-reads
-use Rattle.line.proofs.is_sound.Reads as is-sound-reads′
-use Rattle.plain.proofs.second.is_sound.Reads as second-is-sound-reads
-use Rattle.rules.proofs.passes_end.Reads as passes-end-reads
 
--- src/lib.rt:60:13
 returns : tie.Need-returns
-returns c = ?
+returns c = no _ _ (unsound-live (c .before .before .args .self) (c .if1 .taken))
 
--- src/lib.rt:63:13
 returns-2 : tie.Need-returns-2
-returns-2 c = ?
+returns-2 c = no _ _ (unsound-way (c .before .before .before .before .args .self) (omega (arith, c .if2 .taken)))
 
--- src/lib.rt:67:13
 is-sound-requires : tie.Need-is-sound-requires
 is-sound-requires c κs = search needs
 
--- src/lib.rt:68:13
 returns-3 : tie.Need-returns-3
-returns-3 c = ?
+returns-3 c =
+    no _ _ (unsound-control (c .before .before .before .before .before .before .before .args .self)
+    (sym (c .before .is-sound .ensures) ∙ not-true _ (c .if3 .taken)))
 
--- src/lib.rt:71:12
 passes-end-requires : tie.Need-passes-end-requires
 passes-end-requires c κs = search needs
 
--- src/lib.rt:72:13
 returns-4 : tie.Need-returns-4
-returns-4 c = ?
+returns-4 c =
+    no _ _ (unsound-time (c .before .before .before .before .before .before .before .before .before .args .self)
+    (sym (c .before .passes-end .ensures) ∙ c .if4 .taken))
 
--- src/lib.rt:75:13
 is-last-sound-requires : tie.Need-is-last-sound-requires
 is-last-sound-requires c κs = search needs
 
--- src/lib.rt:76:13
 returns-5 : tie.Need-returns-5
-returns-5 c = ?
+returns-5 c =
+    no _ _ (unsound-last
+    (c .before .before .before .before .before .before .before .before .before .before .before .before .args .self)
+    (sym (c .before .is-last-sound .ensures) ∙ not-true _ (c .if5 .taken)))
 
--- src/lib.rt:79:13
 is-sound-requires-2 : tie.Need-is-sound-requires-2
 is-sound-requires-2 c κs = search needs
 
--- src/lib.rt:80:13
 returns-6 : tie.Need-returns-6
-returns-6 c = ?
+returns-6 c =
+    no _ _ (unsound-line
+    (c .before .before .before .before .before .before .before .before .before .before .before .before .before .before .before .args .self)
+    (sym (c .before .is-sound2 .ensures .0) ∙ not-true _ (c .if6 .taken)))
 
--- src/lib.rt:83:13
 are-counts-sound-requires : tie.Need-are-counts-sound-requires
 are-counts-sound-requires c κs = search needs
 
--- src/lib.rt:84:13
 returns-7 : tie.Need-returns-7
-returns-7 c = ?
+returns-7 c =
+    let line = c .before .before .before .before .is-sound2 in
+    no _ _ (unsound-counts
+    (c .before .before .before .before .before .before .before .before .before .before .before .before .before .before .before .before .before .before .args .self) (line .ensures .1 (not-false _ (c .before .before .before .if6 .left)))
+    (sym (c .before .are-counts-sound .ensures) ∙ not-true _ (c .if7 .taken)))
 
--- src/lib.rt:87:9
 is-sound-requires-3 : tie.Need-is-sound-requires-3
-is-sound-requires-3 c κs = ?
+is-sound-requires-3 c κs =
+    in-time _
+    (sym (c .before .before .before .before .before .before .before .before .before .before .before .passes-end .ensures)
+    ∙ c .before .before .before .before .before .before .before .before .before .before .if4 .left)
 
--- src/lib.rt:55:5
 returns-8 : tie.Need-returns-8
-returns-8 c = ?
+returns-8 c =
+    let s = c .before .before .before .before .before .before .before .before .before .before .before .before .before .before .before .before .before .before .before .before in
+    let line = c .before .before .before .before .before .before .is-sound2 in
+    let tight = line .ensures .1 (not-false _ (c .before .before .before .before .before .if6 .left)) in
+    let way : leb (s .args .self .oldway) 1 ≡ true =
+    le-leb (s .args .self .oldway) 1
+    (omega (arith, c .before .before .before .before .before .before .before .before .before .before .before .before .before .before .before .before .if2 .left)) in
+    let steered =
+    (sym (c .before .before .before .before .before .before .before .before .before .before .before .before .before .before .is-sound .ensures) ∙ not-false _ (c .before .before .before .before .before .before .before .before .before .before .before .before .before .if3 .left)) in
+    let timely =
+    sym (c .before .before .before .before .before .before .before .before .before .before .before .before .passes-end .ensures) ∙ c .before .before .before .before .before .before .before .before .before .before .before .if4 .left in
+    let lasting =
+    (sym (c .before .before .before .before .before .before .before .before .before .is-last-sound .ensures)
+    ∙ not-false _ (c .before .before .before .before .before .before .before .before .if5 .left)) in
+    let lined =
+    (sym (c .before .before .before .before .before .before .is-sound2 .ensures .0)
+    ∙ not-false _ (c .before .before .before .before .before .if6 .left)) in
+    let counted = (sym (c .before .before .before .are-counts-sound .ensures) ∙ not-false _ (c .before .before .if7 .left)) in
+    let same =
+    by-ledger (s .args .self)
+    (c .before .before .before .before .before .before .before .before .before .before .before .before .before .before .before .before .before .before .if1 .left) way steered timely lasting lined tight counted in (
+      c .is-sound3 .ensures ∙ sym same,
+      λ z. laid-out (s .args .self) tight
+      (ledger-tight (s .args .self) (forty-of (s .args .self) _ (s .good .0)) (sym (c .is-sound3 .ensures) ∙ z)),
+    )
 
 pub is-sound-spec : {M : Type 1} → statement M
 is-sound-spec =

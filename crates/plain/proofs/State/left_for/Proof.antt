@@ -1,34 +1,43 @@
+-- The greater of what is left of the wait and of what is left until the air allows it.
+use Prim.Native.Nat.{ℕ, _-_, max}
+use mathlib.Core.Path.{_≡_, sym, _∙_, ap, ap₂}
+use Rattle.model.specs.Ledger.{allowedFrom}
+use Rattle.decide.specs.Decisions.{leftAt}
+use Rattle.decide.proofs.Closing.{left-waits}
+use Rattle.plain.specs.Layout.{viewOf}
+use Rattle.plain.proofs.Views.{known}
 use borrow.Author.Needs.{needs}
 use Rattle.plain.proofs.State.left_for.Statement.{statement}
 use Rattle.plain.proofs.State.left_for.Tie as tie
-use Rattle.plain.proofs.State.left_for.Reads as reads
-use Rattle.plain.proofs.State.left_for.Lts as lts
-use Rattle.control.proofs.closed_after.Reads as closed-after-reads
-use Rattle.decide.proofs.left_of.Reads as left-of-reads
-use Rattle.decide.proofs.longer.Reads as longer-reads
-use Rattle.plain.proofs.second.air_left.Reads as air-left-reads
 
--- src/lib.rt:245:13
 closed-after-requires : tie.Need-closed-after-requires
-closed-after-requires c κs = ?
+closed-after-requires c κs = let k = known _ (c .before .pre) in (k .control, k .last-air)
 
--- src/lib.rt:246:13
 left-of-requires : tie.Need-left-of-requires
-left-of-requires c κs = ?
+left-of-requires c κs = known _ (c .before .before .pre) .last-past
 
--- src/lib.rt:247:13
 air-left-requires : tie.Need-air-left-requires
-air-left-requires c κs = ?
+air-left-requires c κs = let k = known _ (c .before .before .before .pre) in (k .few, (k .air, k .in-time))
 
--- src/lib.rt:248:9
 longer-requires : tie.Need-longer-requires
 longer-requires c κs = search needs
 
--- src/lib.rt:239:5
 returns : tie.Need-returns
-returns c = ?
+returns c =
+    let s = c .before .before .before .before .before .args .self in
+    c .longer .ensures
+    ∙ ap₂ max
+    (c .before .before .left-of .ensures
+    ∙ ap (λ (n : ℕ). leftAt n (s .last) (s .clock .time)) (c .before .before .before .closed-after .ensures)
+    ∙ sym (left-waits (viewOf s)))
+    (c .before .air-left .ensures)
 
 pub left-for-spec : {M : Type 1} → statement M
 left-for-spec =
     tie.close
-    (tie.spec closed-after-requires left-of-requires air-left-requires longer-requires returns)
+    (tie.spec
+    closed-after-requires
+    left-of-requires
+    air-left-requires
+    longer-requires
+    returns)

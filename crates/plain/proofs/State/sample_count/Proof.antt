@@ -1,54 +1,82 @@
+-- Refused, or the clock moved and the control steered.
+use mathlib.Core.Path.{_≡_, sym, _∙_, ap}
+use native.Mathlib.Omega.{arith}
+use Rattle.rules.specs.Refusals.{firstOf}
+use Rattle.rules.proofs.Probes.{load-le}
+use Rattle.model.specs.declared.Answer.the-variants.{Taken}
+use Rattle.model.specs.Calls.{count}
+use Rattle.model.specs.Effects.{effect}
+use Rattle.plain.specs.declared.State.{State}
+use Rattle.plain.specs.Layout.{outcome}
+use Rattle.plain.proofs.Views.{sound-parts, known}
+use Rattle.plain.proofs.Doing.{samples}
+use Rattle.plain.proofs.Entry.{entered, entry-refused, own-refused, accepted}
 use borrow.Author.Needs.{needs}
 use Rattle.plain.proofs.State.sample_count.Statement.{statement}
 use Rattle.plain.proofs.State.sample_count.Tie as tie
-use Rattle.plain.proofs.State.sample_count.Reads as reads
-use Rattle.plain.proofs.State.sample_count.Lts as lts
-use Rattle.control.proofs.tuning_after.Reads as tuning-after-reads
-use Rattle.plain.proofs.State.advance.Reads as advance-reads
-use Rattle.plain.proofs.State.refusal.Reads as refusal-reads
-use Rattle.plain.proofs.State.refused.Reads as refused-reads
-use Rattle.rules.proofs.is_bad_count.Reads as is-bad-count-reads
-use Rattle.rules.proofs.load.Reads as load-reads
 
--- src/lib.rt:152:13
 refusal-requires : tie.Need-refusal-requires
 refusal-requires c κs = search needs
 
--- src/lib.rt:154:13
 refused-requires : tie.Need-refused-requires
 refused-requires c κs = search needs
 
--- src/lib.rt:154:13
 returns : tie.Need-returns
-returns c = ?
+returns c =
+    let s = c .before .before .before in
+    c .refused .ensures
+    ∙ entry-refused (s .args .self) (count (s .args .stamp) (s .args .busy) (s .args .probes)) _
+    (c .before .before .refusal .ensures .0)
+    (c .before .if1 .taken)
 
--- src/lib.rt:156:12
 is-bad-count-requires : tie.Need-is-bad-count-requires
 is-bad-count-requires c κs = search needs
 
--- src/lib.rt:157:13
 refused-requires-2 : tie.Need-refused-requires-2
 refused-requires-2 c κs = search needs
 
--- src/lib.rt:157:13
 returns-2 : tie.Need-returns-2
-returns-2 c = ?
+unfolding firstOf
+returns-2 c =
+    let s = c .before .before .before .before .before in
+    let e = entered (s .args .self) (s .args .stamp)
+    (sym (c .before .before .before .before .refusal .ensures .0) ∙ c .before .before .before .if1 .left) in
+    let bad = sym (c .before .before .is-bad-count .ensures) ∙ c .before .if2 .taken in
+    c .refused2 .ensures
+    ∙ own-refused (s .args .self) (count (s .args .stamp) (s .args .busy) (s .args .probes)) 4 e (rw bad) (λ z. omega arith)
 
--- src/lib.rt:159:13
-advance-requires : tie.Need-advance-requires
-advance-requires c κs = ?
-
--- src/lib.rt:161:61
 load-requires : tie.Need-load-requires
-load-requires c κs = ?
+load-requires c κs = sym (c .before .is-bad-count .ensures) ∙ c .if2 .left
 
--- src/lib.rt:161:9
 tuning-after-requires : tie.Need-tuning-after-requires
-tuning-after-requires c κs = ?
+tuning-after-requires c κs =
+    let s = c .before .before .before .before .before in
+    let e = entered (s .args .self) (s .args .stamp)
+    (sym (c .before .before .before .before .refusal .ensures .0) ∙ c .before .before .before .if1 .left) in
+    let good = sym (c .before .before .is-bad-count .ensures) ∙ c .before .if2 .left in
+    (known _ (c .before .before .before .before .refusal .ensures .1 (c .before .before .before .if1 .left), sound-parts _
+    (e .is-sound) .2) .control, omega (arith, c .load .ensures, load-le (s .args .busy) (s .args .probes) good))
 
--- src/lib.rt:149:5
+advance-requires : tie.Need-advance-requires
+advance-requires c κs =
+    let s = c .before .before .before .before .before .before in
+    let e = entered (s .args .self) (s .args .stamp) (sym (c .before .before .before .before .before .refusal .ensures .0)
+    ∙ c .before .before .before .before .if1 .left) in
+    (c .before .before .before .before .before .refusal .ensures .1
+    (c .before .before .before .before .if1 .left), sound-parts _ (e .is-sound) .2)
+
 returns-3 : tie.Need-returns-3
-returns-3 c = ?
+unfolding firstOf effect
+returns-3 c =
+    let s = c .before .before .before .before .before .before .before in
+    let e = entered (s .args .self) (s .args .stamp)
+    (sym (c .before .before .before .before .before .before .refusal .ensures .0)
+    ∙ c .before .before .before .before .before .if1 .left) in
+    let good = sym (c .before .before .before .before .is-bad-count .ensures) ∙ c .before .before .before .if2 .left in
+    ap (λ (x : State). outcome x Taken)
+    (samples (s .args .self) (c .advance .result) (s .args .stamp) (s .args .busy) (s .args .probes) _ _ (c .advance .ensures)
+    (c .before .before .load .ensures) (c .before .tuning-after .ensures))
+    ∙ accepted (s .args .self) (count (s .args .stamp) (s .args .busy) (s .args .probes)) e (rw good)
 
 pub sample-count-spec : {M : Type 1} → statement M
 sample-count-spec =
@@ -60,7 +88,7 @@ sample-count-spec =
     is-bad-count-requires
     refused-requires-2
     returns-2
-    advance-requires
     load-requires
     tuning-after-requires
+    advance-requires
     returns-3)
