@@ -6,4 +6,5 @@ pub mod Judged
 pub mod Entry
 pub mod Doing
 pub mod Polling
+pub mod Bursts
 pub mod Runs

@@ -354,8 +354,10 @@ pub fn burst(mut state: State, records: &[u8], answers: &mut [u8]) -> BurstTurn
     while i < n {
         let rec = calllog::read_record(records, calllog::RECORD_BYTES * i);
         let outcome = offered(state, rec);
-        state = outcome.state;
-        answers[i] = calllog::answer_byte(outcome.answer);
+        let next = outcome.state;
+        let answer = outcome.answer;
+        state = next;
+        answers[i] = calllog::answer_byte(answer);
         i += 1;
     }
     BurstTurn { state, number: 0 }
