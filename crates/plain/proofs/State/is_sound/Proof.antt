@@ -92,7 +92,7 @@ returns-8 c =
     (c .before .before .before .before .before .before .before .before .before .before .before .before .before .before .before .before .before .before .if1 .left) way steered timely lasting lined tight counted in (
       c .is-sound3 .ensures ∙ sym same,
       λ z. laid-out (s .args .self) tight
-      (ledger-tight (s .args .self) (forty-of (s .args .self) _ (s .good .0)) (sym (c .is-sound3 .ensures) ∙ z)),
+          (ledger-tight (s .args .self) (forty-of (s .args .self) _ (s .good .0)) (sym (c .is-sound3 .ensures) ∙ z)),
     )
 
 pub is-sound-spec : {M : Type 1} → statement M

@@ -81,9 +81,11 @@ admit-requires c κs =
     let a = c .before .before .before .before .before .refresh in
     let p = c .before .before .pick .result in
     let first = picks-at (a .result) w p (a .ensures) (c .before .before .pick .ensures) in
-    let wait = left-at (a .result) w p _ (a .ensures) (c .before .left-for .ensures) in
-    (given-of _ _ (a .ensures) h, room-left (s .args .self) (a .result) (s .args .stamp) p _ e (a .ensures) h first wait
-    (c .if3 .left))
+    let wait = left-at (a .result) w p _ (a .ensures) (c .before .left-for .ensures) in (
+      given-of _ _ (a .ensures) h,
+      room-left (s .args .self) (a .result) (s .args .stamp) p _ e (a .ensures) h first wait
+          (c .if3 .left),
+    )
 
 returns-4 : tie.Need-returns-4
 unfolding effect

@@ -36,8 +36,11 @@ clock-at-requires : tie.Need-clock-at-requires
 clock-at-requires c κs =
     let sounds = sym (c .before .before .before .before .before .is-sound .ensures .0)
     ∙ not-false _ (c .before .before .before .before .if1 .left) in
-    known _ (c .before .before .before .before .before .is-sound .ensures .1
-    (not-false _ (c .before .before .before .before .if1 .left)), sound-parts _ sounds .2) .time
+    known _ (
+      c .before .before .before .before .before .is-sound .ensures .1
+          (not-false _ (c .before .before .before .before .if1 .left)),
+      sound-parts _ sounds .2,
+    ) .time
 
 passes-end-requires : tie.Need-passes-end-requires
 passes-end-requires c κs = search needs
@@ -61,9 +64,11 @@ returns-4 c =
     let on = ap goesBack (sym (c .before .before .before .before .before .step .ensures))
     ∙ sym (c .before .before .before .before .goes-back .ensures) ∙ c .before .before .before .if2 .left in
     let past = ap (λ (k : Clock). passesEnd (k .time)) (sym (c .before .before .clock-at .ensures))
-    ∙ sym (c .before .passes-end .ensures) ∙ c .if3 .left in
-    (sym (rw (sounds, on, past)), λ z. c .before .before .before .before .before .before .before .before .is-sound .ensures .1
-    (not-false _ (c .before .before .before .before .before .before .before .if1 .left)))
+    ∙ sym (c .before .passes-end .ensures) ∙ c .if3 .left in (
+      sym (rw (sounds, on, past)),
+      λ z. c .before .before .before .before .before .before .before .before .is-sound .ensures .1
+          (not-false _ (c .before .before .before .before .before .before .before .if1 .left)),
+    )
 
 pub refusal-spec : {M : Type 1} → statement M
 refusal-spec =

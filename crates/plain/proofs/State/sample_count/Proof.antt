@@ -53,17 +53,24 @@ tuning-after-requires c κs =
     let s = c .before .before .before .before .before in
     let e = entered (s .args .self) (s .args .stamp)
     (sym (c .before .before .before .before .refusal .ensures .0) ∙ c .before .before .before .if1 .left) in
-    let good = sym (c .before .before .is-bad-count .ensures) ∙ c .before .if2 .left in
-    (known _ (c .before .before .before .before .refusal .ensures .1 (c .before .before .before .if1 .left), sound-parts _
-    (e .is-sound) .2) .control, omega (arith, c .load .ensures, load-le (s .args .busy) (s .args .probes) good))
+    let good = sym (c .before .before .is-bad-count .ensures) ∙ c .before .if2 .left in (
+      known _ (
+        c .before .before .before .before .refusal .ensures .1 (c .before .before .before .if1 .left),
+        sound-parts _
+            (e .is-sound) .2,
+      ) .control,
+      omega (arith, c .load .ensures, load-le (s .args .busy) (s .args .probes) good),
+    )
 
 advance-requires : tie.Need-advance-requires
 advance-requires c κs =
     let s = c .before .before .before .before .before .before in
     let e = entered (s .args .self) (s .args .stamp) (sym (c .before .before .before .before .before .refusal .ensures .0)
-    ∙ c .before .before .before .before .if1 .left) in
-    (c .before .before .before .before .before .refusal .ensures .1
-    (c .before .before .before .before .if1 .left), sound-parts _ (e .is-sound) .2)
+    ∙ c .before .before .before .before .if1 .left) in (
+      c .before .before .before .before .before .refusal .ensures .1
+          (c .before .before .before .before .if1 .left),
+      sound-parts _ (e .is-sound) .2,
+    )
 
 returns-3 : tie.Need-returns-3
 unfolding firstOf effect
