@@ -20,31 +20,33 @@ pub extern "C" fn presscurlew_write_make(
     calllog::writer::write_make(profile, oldway, stamp, log, at)
 }
 
-// Writes a sample by words, as the one by its busy count.
+// Writes a sample of so many probes by words, as the one by its busy count.
 #[no_mangle]
 pub extern "C" fn presscurlew_write_sample_words(
-    probes: &[u64],
+    probes: u32,
+    ws: &[u64],
     stamp: u32,
     log: &mut [u8],
     at: usize,
 ) -> u32
-    ensures { λ r. ⌜ Wrote (now (log .entry)) at (calls (words stamp (now (probes .entry)))) r
+    ensures { λ r. ⌜ Wrote (now (log .entry)) at (calls (words stamp probes (now (ws .entry)))) r
         (now (log .exit)) ⌝ }
 {
-    calllog::writer::write_sample_words(probes, stamp, log, at)
+    calllog::writer::write_sample_words(probes, ws, stamp, log, at)
 }
 
-// Writes a sample by its busy count.
+// Writes a sample by its busy count, of so many probes.
 #[no_mangle]
 pub extern "C" fn presscurlew_write_sample_count(
     busy: u32,
+    probes: u32,
     stamp: u32,
     log: &mut [u8],
     at: usize,
 ) -> u32
-    ensures { λ r. ⌜ Wrote (now (log .entry)) at (calls (count stamp busy)) r (now (log .exit)) ⌝ }
+    ensures { λ r. ⌜ Wrote (now (log .entry)) at (calls (count stamp busy probes)) r (now (log .exit)) ⌝ }
 {
-    calllog::writer::write_sample_count(busy, stamp, log, at)
+    calllog::writer::write_sample_count(busy, probes, stamp, log, at)
 }
 
 // Writes an offer.
