@@ -1,5 +1,5 @@
--- A poll of the plain engine: nothing waits, or the packet picked waits for the wait or for the air, or it goes; and where it goes
--- the ledger has room, since the state that it leaves is sound.
+-- A poll of the plain engine: nothing waits, or the packet picked waits for the wait or for the air, or it goes; and where it
+-- goes the ledger has room, since the state that it leaves is sound.
 use Prim.Native.Nat.{ℕ, _≤_, _<_, max}
 use mathlib.Core.Path.{_≡_, refl, ap, sym, _∙_, subst}
 use mathlib.Core.Bool.{true, false}

@@ -37,7 +37,8 @@ use Rattle.calllog.proofs.Bursting.{runs-with-bursts}
 use Rattle.plain.specs.declared.State.{State}
 use Rattle.plain.specs.declared.Outcome.{Outcome}
 use Rattle.plain.specs.Layout.{viewOf, stateOf, soundState, callOn, makeState}
-use Rattle.plain.specs.Bursts.{offeredBy, offeredTo, answersTo, burstState, burstAnswers, moved, heardOf, movedAll, allHeard}
+use Rattle.plain.specs.Bursts.{offeredBy, offeredTo, answersTo, burstState, burstAnswers}
+use Rattle.plain.specs.Bursts.{moved, heardOf, movedAll, allHeard}
 use Rattle.plain.specs.Runs.{SameMoves, SoundStatesAgree, SameRun, Agrees}
 use Rattle.plain.proofs.Views.{view-state, sound-parts}
 use Rattle.plain.proofs.Polling.{packets-of}

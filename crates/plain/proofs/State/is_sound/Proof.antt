@@ -48,19 +48,22 @@ is-sound-requires-2 c κs = search needs
 
 returns-6 : tie.Need-returns-6
 returns-6 c =
-    no _ _ (unsound-line
-    (c .before .before .before .before .before .before .before .before .before .before .before .before .before .before .before .args .self)
-    (sym (c .before .is-sound2 .ensures .0) ∙ not-true _ (c .if6 .taken)))
+    let line = c .before in
+    let last = line .before .before .before in
+    let time = last .before .before .before in
+    let s = time .before .before .before .before .before .before .before .before in
+    no _ _ (unsound-line (s .args .self) (sym (line .is-sound2 .ensures .0) ∙ not-true _ (c .if6 .taken)))
 
 are-counts-sound-requires : tie.Need-are-counts-sound-requires
 are-counts-sound-requires c κs = search needs
 
 returns-7 : tie.Need-returns-7
 returns-7 c =
-    let line = c .before .before .before .before .is-sound2 in
-    no _ _ (unsound-counts
-    (c .before .before .before .before .before .before .before .before .before .before .before .before .before .before .before .before .before .before .args .self) (line .ensures .1 (not-false _ (c .before .before .before .if6 .left)))
-    (sym (c .before .are-counts-sound .ensures) ∙ not-true _ (c .if7 .taken)))
+    let line = c .before .before .before .before in
+    let time = line .before .before .before .before .before .before in
+    let s = time .before .before .before .before .before .before .before .before in
+    let tight = line .is-sound2 .ensures .1 (not-false _ (c .before .before .before .if6 .left)) in
+    no _ _ (unsound-counts (s .args .self) tight (sym (c .before .are-counts-sound .ensures) ∙ not-true _ (c .if7 .taken)))
 
 is-sound-requires-3 : tie.Need-is-sound-requires-3
 is-sound-requires-3 c κs =
@@ -70,26 +73,23 @@ is-sound-requires-3 c κs =
 
 returns-8 : tie.Need-returns-8
 returns-8 c =
-    let s = c .before .before .before .before .before .before .before .before .before .before .before .before .before .before .before .before .before .before .before .before in
-    let line = c .before .before .before .before .before .before .is-sound2 in
-    let tight = line .ensures .1 (not-false _ (c .before .before .before .before .before .if6 .left)) in
-    let way : leb (s .args .self .oldway) 1 ≡ true =
-    le-leb (s .args .self .oldway) 1
-    (omega (arith, c .before .before .before .before .before .before .before .before .before .before .before .before .before .before .before .before .if2 .left)) in
-    let steered =
-    (sym (c .before .before .before .before .before .before .before .before .before .before .before .before .before .before .is-sound .ensures) ∙ not-false _ (c .before .before .before .before .before .before .before .before .before .before .before .before .before .if3 .left)) in
-    let timely =
-    sym (c .before .before .before .before .before .before .before .before .before .before .before .before .passes-end .ensures) ∙ c .before .before .before .before .before .before .before .before .before .before .before .if4 .left in
-    let lasting =
-    (sym (c .before .before .before .before .before .before .before .before .before .is-last-sound .ensures)
-    ∙ not-false _ (c .before .before .before .before .before .before .before .before .if5 .left)) in
-    let lined =
-    (sym (c .before .before .before .before .before .before .is-sound2 .ensures .0)
-    ∙ not-false _ (c .before .before .before .before .before .if6 .left)) in
-    let counted = (sym (c .before .before .before .are-counts-sound .ensures) ∙ not-false _ (c .before .before .if7 .left)) in
-    let same =
-    by-ledger (s .args .self)
-    (c .before .before .before .before .before .before .before .before .before .before .before .before .before .before .before .before .before .before .if1 .left) way steered timely lasting lined tight counted in (
+    let counts = c .before .before .before in
+    let line = counts .before .before .before in
+    let last = line .before .before .before in
+    let time = last .before .before .before in
+    let control = time .before .before in
+    let way = control .before .before in
+    let live = way .before .before in
+    let s = live .before .before in
+    let tight = line .is-sound2 .ensures .1 (not-false _ (counts .before .before .if6 .left)) in
+    let old-or-new : leb (s .args .self .oldway) 1 ≡ true =
+    le-leb (s .args .self .oldway) 1 (omega (arith, way .if2 .left)) in
+    let steered = sym (control .is-sound .ensures) ∙ not-false _ (time .before .if3 .left) in
+    let timely = sym (time .passes-end .ensures) ∙ last .before .before .if4 .left in
+    let lasting = sym (last .is-last-sound .ensures) ∙ not-false _ (line .before .before .if5 .left) in
+    let lined = sym (line .is-sound2 .ensures .0) ∙ not-false _ (counts .before .before .if6 .left) in
+    let counted = sym (counts .are-counts-sound .ensures) ∙ not-false _ (c .before .before .if7 .left) in
+    let same = by-ledger (s .args .self) (live .if1 .left) old-or-new steered timely lasting lined tight counted in (
       c .is-sound3 .ensures ∙ sym same,
       λ z. laid-out (s .args .self) tight
           (ledger-tight (s .args .self) (forty-of (s .args .self) _ (s .good .0)) (sym (c .is-sound3 .ensures) ∙ z)),
