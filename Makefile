@@ -6,7 +6,8 @@ PROVED := crates.txt $(shell find crates -name '*.rt' -o -name '*.antt')
 help:
 	@echo 'make demo    a trailer in a jam: the gate at work, the verdict, and a picture'
 	@echo 'make test    the merge gate: proofs, archives, Rust tests, C examples'
-	@echo 'make bench   calls, samples and records beside the same in plain Rust, a record beside its call, a burst beside single offers, the plain engine beside the gate'
+	@echo 'make bench   calls, samples and records beside plain Rust, a record beside its call, a burst beside single offers,'
+	@echo '             the plain engine beside the gate'
 	@echo 'make bench-replay   the program replay beside the same in plain Rust'
 
 # The program that answers: the proved one, or without the Rattle kit the second one, which gives the same output.

@@ -3,7 +3,7 @@
  * same random calls and bursts, and are compared at every step: the answer, the clock, the counts, the admissions of
  * the last second, what samples steer, and the list, parted by priority, with the queues.
  *
- * It prints what was answered, and whether they agree; if they do not, at which call they parted.
+ * It prints what was answered, and whether they agree. Where they do not, it stops at the call.
  */
 #include <inttypes.h>
 #include <stdio.h>
@@ -100,9 +100,11 @@ static void poll(pair *both, uint32_t now) {
 static void burst(pair *both, uint64_t *row, uint32_t id, uint32_t now) {
     uint8_t records[BURST * PRESSCURLEW_RECORD_BYTES], answers[BURST], plain_answers[BURST];
 
-    for (uint32_t i = 0; i < BURST; i++)
-        presscurlew_put_offer(records + i * PRESSCURLEW_RECORD_BYTES, id + i, random_below(row, 4), 400,
-                              1 + random_below(row, 500000), now + i);
+    for (uint32_t i = 0; i < BURST; i++) {
+        uint32_t priority = random_below(row, 4), lifetime = 1 + random_below(row, 500000);
+        uint8_t *record = records + i * PRESSCURLEW_RECORD_BYTES;
+        presscurlew_put_offer(record, id + i, priority, 400, lifetime, now + i);
+    }
     presscurlew_burst_turn gate = presscurlew_burst(both->gate, records, sizeof records, answers, BURST);
     presscurlew_plain_burst_turn plain =
         presscurlew_plain_burst(both->plain, records, sizeof records, plain_answers, BURST);
@@ -128,29 +130,32 @@ static void step(pair *both, uint64_t *row, uint32_t i) {
         poll(both, now);
 }
 
+/* What was answered, and what became of the packets. */
+static void report(const pair *both) {
+    static const char *const names[] = {"READY", "TAKEN", "SENT", "IDLE", "CLOSED", "REFUSED"};
+    const presscurlew_counts *counts = &both->plain.counts;
+
+    printf("  answers  ");
+    for (uint32_t kind = PRESSCURLEW_TAKEN; kind <= PRESSCURLEW_REFUSED; kind++)
+        printf("%6" PRIu32 " %s", both->answers[kind], names[kind]);
+    printf(", and to %" PRIu32 " records of bursts\n", both->in_bursts);
+    printf("  packets  %6" PRIu64 " accepted %6" PRIu64 " sent %6" PRIu64 " expired %6" PRIu64 " displaced\n",
+           counts->accepted, counts->sent, counts->expired, counts->displaced);
+}
+
 /* Answers 1 if both engines agreed at every call. */
 static uint32_t run(uint32_t profile, uint32_t when_full) {
-    static const char *const names[] = {"READY", "TAKEN", "SENT", "IDLE", "CLOSED", "REFUSED"};
     uint64_t row = UINT64_C(0x9E3779B97F4A7C15) + profile;
     pair both = {presscurlew_make(profile, when_full, 0).state, presscurlew_plain_make(profile, when_full, 0).state,
                  {0}, 0, 1};
+    uint32_t calls = 0;
 
-    for (uint32_t i = 0; i < CALLS && both.alike; i++) {
-        step(&both, &row, i);
-        if (!both.alike)
-            printf("profile %" PRIu32 ": they differ at call %" PRIu32 "\n", profile, i);
-    }
-    presscurlew_counts counts = both.plain.counts;
+    while (calls < CALLS && both.alike)
+        step(&both, &row, calls++);
     printf("profile %" PRIu32 ", a full queue %s\n", profile,
            when_full == PRESSCURLEW_DROP_OLDEST ? "drops its oldest" : "refuses the new one");
-    printf("  answers   ");
-    for (uint32_t kind = PRESSCURLEW_TAKEN; kind <= PRESSCURLEW_REFUSED; kind++)
-        printf("%6" PRIu32 " %s", both.answers[kind], names[kind]);
-    printf("\n");
-    printf("  packets   %6" PRIu64 " accepted %6" PRIu64 " sent %6" PRIu64 " expired %6" PRIu64 " displaced\n",
-           counts.accepted, counts.sent, counts.expired, counts.displaced);
-    printf("  the engines %s, and in %" PRIu32 " records of bursts\n",
-           both.alike ? "agree at every call" : "DIFFER", both.in_bursts);
+    report(&both);
+    printf("  the engines %s %" PRIu32 " calls\n", both.alike ? "agree at all of" : "DIFFER at the last of", calls);
     return both.alike;
 }
 

@@ -102,7 +102,7 @@ fn damaged(state: &State, rng: &mut Rng) -> State {
     state
 }
 
-/// Every kind of call on damaged copies of a state. How many were refused with 9, and how many not.
+/// Every kind of call, and a burst, on a damaged copy of a state. `asked` counts the calls, and apart those that got 9.
 fn ask_damaged(state: &State, rng: &mut Rng, place: &Place, asked: &mut [u64; 2]) {
     let state = damaged(state, rng);
     let stamp = state.clock.stamp.wrapping_add(rng.below(200_000) as u32);
