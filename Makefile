@@ -1,12 +1,13 @@
 # Presscurlew: what can be run. Everything that is made lies below target/.
 
-ARCHIVES := $(patsubst %,target/staticlib/lib%.a,cstack floats host bursts loops)
+ARCHIVES := $(patsubst %,target/staticlib/lib%.a,cstack floats host bursts loops plainhost)
 PROVED := crates.txt $(shell find crates -name '*.rt' -o -name '*.antt')
 
 help:
 	@echo 'make demo    a trailer in a jam: the gate at work, the verdict, and a picture'
 	@echo 'make test    the merge gate: proofs, archives, Rust tests, C examples'
-	@echo 'make bench   calls, samples and records beside the same in plain Rust, a record beside its call, a burst beside single offers'
+	@echo 'make bench   calls, samples and records beside plain Rust, a record beside its call, a burst beside single offers,'
+	@echo '             the plain engine beside the gate'
 	@echo 'make bench-replay   the program replay beside the same in plain Rust'
 
 # The program that answers: the proved one, or without the Rattle kit the second one, which gives the same output.
@@ -71,6 +72,8 @@ bench: $(ARCHIVES)
 	@$(CARGO_RUN) --package bench --bin record
 	@echo
 	@$(CARGO_RUN) --package bench --bin burst
+	@echo
+	@$(CARGO_RUN) --package bench --bin plain_engine
 
 bench-replay: $(ARCHIVES) target/bin/replay
 	@$(CARGO_BUILD) --package bench

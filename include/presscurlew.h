@@ -8,6 +8,8 @@
  *   in doubles  profile 3's update in floating point, for simulations                       link libfloats.a
  * They stand in target/staticlib (x86-64, System V calling convention).
  *
+ * presscurlew_plain.h has the gate once more, written to be read and not for speed: it is for tests and the assessor.
+ *
  * Each call is proved to answer what its comment says, for any numbers and any state at all: nothing is
  * undefined and nothing aborts. All are pure functions: what they need comes in by value (but for the words
  * of a sample and the records of a burst, which are only read) and what they give goes out by value (but for

@@ -94,6 +94,12 @@ calls and the answers alone, and says of each run:
 
 with the nearest that the run came to its limit. ANSWERS must fit the log: a line a record,
 then END or TORN. Exit status 1 if anything was not kept, 2 if the answers don't fit.
+
+For a third opinion, the plain engine plays the log too, which keeps one list in place of four
+queues and is proved to answer alike. Its answers go into a check as any others:
+
+  plainhost-replay <my.log >plain.out
+  curlew check my.log plain.out
 ";
 
 const PLOT_HELP: &str = "\

@@ -16,6 +16,8 @@ fn help_and_version() {
     let check = curlew(&["check", "--help"]).good().text();
     let counts = "Counts     accepted = sent + expired + displaced + waiting at every record";
     assert!(check.contains(counts), "{check}");
+    let third = "plainhost-replay <my.log >plain.out";
+    assert!(check.contains(third), "{check}");
     let version = curlew(&["--version"]).good().text();
     assert_eq!(version, format!("curlew {}\n", env!("CARGO_PKG_VERSION")));
 }

@@ -13,11 +13,11 @@ use reference::rng::Rng;
 use reference::rules;
 use reference::state::{broken_rules, rule_names, sound, Admission, Counts, Packet, Queue, State};
 
-const TIME: u64 = 5_000_000_000;
+pub const TIME: u64 = 5_000_000_000;
 
 /// A sound state with this many packets in each queue, and the more admissions the more packets; profile 3 keeps a
 /// sample, and profile 4 has had one. With an odd number a full queue refuses, with an even one it drops its oldest.
-fn base(profile: u32, length: usize) -> State {
+pub fn base(profile: u32, length: usize) -> State {
     let ontime = rules::on_time_max(profile).unwrap();
     let mut state = State::fresh(profile, length as u32 % 2, 77);
     state.time = TIME;

@@ -31,7 +31,7 @@ fn good(priority: u8, stamp: u32) -> Record {
     }
 }
 
-fn bytes(records: &[Record]) -> Vec<u8> {
+pub fn bytes(records: &[Record]) -> Vec<u8> {
     records.iter().flat_map(Record::to_bytes).collect()
 }
 
@@ -275,7 +275,7 @@ fn any_record(rng: &mut Rng, last: u32) -> Record {
 }
 
 /// Records, each with an eye on the state that those before it lead to.
-fn any_records(rng: &mut Rng, many: usize, state: &State) -> Vec<Record> {
+pub fn any_records(rng: &mut Rng, many: usize, state: &State) -> Vec<Record> {
     let mut state = *state;
     let mut next = || {
         let record = any_record(rng, state.stamp);

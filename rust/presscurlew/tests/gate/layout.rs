@@ -1,5 +1,5 @@
-//! Sizes and offsets of the structs. `examples/c/layout.c` prints the same of the header's structs, and both are
-//! held to one file, so that C and Rust see one layout.
+//! Sizes and offsets of the structs. `examples/c/layout.c` and `plain_layout.c` print the same of the headers' structs, and
+//! both are held to one file each, so that C and Rust see one layout.
 
 use std::fmt::Write;
 use std::mem::{offset_of, size_of};
@@ -9,6 +9,7 @@ use presscurlew::sys::{
 };
 
 const LAYOUT: &str = include_str!("../../../../examples/c/layout.out");
+const PLAIN_LAYOUT: &str = include_str!("../../../../examples/c/plain_layout.out");
 
 /// A line for the struct's size, then one for each field's offset.
 macro_rules! layout {
@@ -35,4 +36,15 @@ fn structs_lie_as_c_sees_them() {
     layout!(text, "turn", Turn, state, reply);
     layout!(text, "burst_turn", BurstTurn, state, number);
     assert_eq!(text, LAYOUT);
+}
+
+#[test]
+fn structs_of_the_plain_engine_lie_as_c_sees_them() {
+    use plainhost::{BurstTurn, Line, State, Turn};
+    let mut text = String::new();
+    layout!(text, "line", Line, len, packets);
+    layout!(text, "state", State, line, ledger, clock, last, counts, tuning, profile, oldway, live);
+    layout!(text, "turn", Turn, state, reply);
+    layout!(text, "burst_turn", BurstTurn, state, number);
+    assert_eq!(text, PLAIN_LAYOUT);
 }

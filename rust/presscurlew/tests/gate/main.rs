@@ -12,6 +12,9 @@
 //! - `sample_log`: the requirement's own log
 //! - `safe`: what `Gate` makes of the archive's calls
 //! - `writer`: calls written to a log
+//! - `plain`: the plain engine's archive beside the gate's
+//! - `plain_runs`: both archives through random runs, single calls and bursts, with damaged states in between
+//! - `plain_states`: sound lists that no run need reach, and lists with one rule of soundness broken
 //! - `layout`: sizes and offsets, the same as C sees
 
 mod broken_states;
@@ -20,6 +23,9 @@ mod displaced;
 mod harmonised;
 mod help;
 mod layout;
+mod plain;
+mod plain_runs;
+mod plain_states;
 mod refusals;
 mod runs;
 mod safe;

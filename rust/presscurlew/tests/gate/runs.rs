@@ -15,7 +15,7 @@ use reference::state::State;
 
 /// What a run is like.
 #[derive(Clone, Copy, Debug)]
-struct Style {
+pub struct Style {
     /// Of 16 calls, so many are samples.
     samples: u64,
     /// Of 16 calls, so many are offers; the others are polls.
@@ -28,7 +28,7 @@ struct Style {
     edges: u64,
 }
 
-const STYLES: [Style; 6] = [
+pub const STYLES: [Style; 6] = [
     // Offers and polls in a hurry: queues are full, most polls find the gate closed.
     Style {
         samples: 1,
@@ -80,13 +80,13 @@ const STYLES: [Style; 6] = [
 ];
 
 /// Makes the calls of a run, with an eye on the state that the reference is in.
-struct Caller {
-    rng: Rng,
-    style: Style,
+pub struct Caller {
+    pub rng: Rng,
+    pub style: Style,
 }
 
 impl Caller {
-    fn call(&mut self, state: &State) -> Call {
+    pub fn call(&mut self, state: &State) -> Call {
         let stamp = state.stamp.wrapping_add(self.step(state));
         let drawn = self.rng.below(16);
         if drawn < self.style.samples {
@@ -188,17 +188,17 @@ pub fn closed_for(state: &State) -> u64 {
 
 /// How often each answer came.
 #[derive(Debug, Default)]
-struct Tally {
-    taken: u64,
-    sent: u64,
-    idle: u64,
-    closed: u64,
-    refused: [u64; 12],
-    displaced: u64,
+pub struct Tally {
+    pub taken: u64,
+    pub sent: u64,
+    pub idle: u64,
+    pub closed: u64,
+    pub refused: [u64; 12],
+    pub displaced: u64,
 }
 
 impl Tally {
-    fn count(&mut self, answer: &Answer) {
+    pub fn count(&mut self, answer: &Answer) {
         match answer {
             Answer::Ready => {}
             Answer::Taken => self.taken += 1,
@@ -211,12 +211,12 @@ impl Tally {
 }
 
 /// Where a run stands, to be named when a comparison fails.
-struct Place {
-    seed: u64,
-    profile: u32,
-    way: u32,
-    style: Style,
-    call: u64,
+pub struct Place {
+    pub seed: u64,
+    pub profile: u32,
+    pub way: u32,
+    pub style: Style,
+    pub call: u64,
 }
 
 impl fmt::Display for Place {
