@@ -1,12 +1,12 @@
 # Presscurlew: what can be run. Everything that is made lies below target/.
 
-ARCHIVES := $(patsubst %,target/staticlib/lib%.a,cstack host bursts loops)
+ARCHIVES := $(patsubst %,target/staticlib/lib%.a,cstack floats host bursts loops)
 PROVED := crates.txt $(shell find crates -name '*.rt' -o -name '*.antt')
 
 help:
 	@echo 'make demo    a trailer in a jam: the gate at work, the verdict, and a picture'
 	@echo 'make test    the merge gate: proofs, archives, Rust tests, C examples'
-	@echo 'make bench   the calls beside the same calls in plain Rust, a record beside its call, a burst beside single offers'
+	@echo 'make bench   calls, samples and records beside the same in plain Rust, a record beside its call, a burst beside single offers'
 	@echo 'make bench-replay   the program replay beside the same in plain Rust'
 
 # The program that answers: the proved one, or without the Rattle kit the second one, which gives the same output.
@@ -63,6 +63,10 @@ bench: $(ARCHIVES)
 	@$(CARGO_RUN) --package bench --bin bench
 	@echo
 	@$(CARGO_RUN) --package bench --bin gate
+	@echo
+	@$(CARGO_RUN) --package bench --bin sample
+	@echo
+	@$(CARGO_RUN) --package bench --bin harmonised
 	@echo
 	@$(CARGO_RUN) --package bench --bin record
 	@echo

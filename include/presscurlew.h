@@ -1,10 +1,11 @@
 /*
  * Presscurlew: a transmit gate for a shared 5.9 GHz radio channel, for radio stacks in C and C++.
  *
- * Three archives, each for itself:
+ * Four archives, each for itself:
  *   the gate    make, sample, offer and poll on a state that the host keeps, and their log  link libhost.a
  *   the burst   many offers on such a state in one call                                     link libbursts.a
  *   the rules   the gate's rules on plain numbers, for a stack that has a gate of its own   link libcstack.a
+ *   in doubles  profile 3's update in floating point, for simulations                       link libfloats.a
  * They stand in target/staticlib (x86-64, System V calling convention).
  *
  * Each call is proved to answer what its comment says, for any numbers and any state at all: nothing is
@@ -16,17 +17,24 @@
  * Units
  *   time      microseconds (us)
  *   stamp     the radio's own 32-bit count of microseconds, which starts anywhere and wraps
+ *   probes    looks at the channel in one sample              1 to 12,500
  *   load      channel busy ratio, parts per 1,000,000         0 to 1,000,000
  *   duty      share of time on air, parts per 1,000,000,000   600,000 to 30,000,000
  *   level     0 Relaxed, 1 Active 1, 2 Active 2, 3 Active 3, 4 Restrictive
  *   on-time   time on air of one packet, microseconds         1 to the longest that the profile allows
  *   lifetime  how long a packet may wait, microseconds        1 to 60,000,000
  *   priority  0 (highest) to 3
+ * The floating update alone takes load and duty as fractions of 1.
  *
- * Profiles (ETSI TS 102 687 V1.2.1)       on-time allowed
- *   1   reactive, Table A.1               1 to 1,000
- *   2   reactive, Table A.2               1 to   500
- *   3   adaptive, clause 5.4              1 to 4,000
+ * Profiles                                               on-time allowed
+ *   1   reactive, ETSI TS 102 687 V1.2.1, Table A.1      1 to 1,000
+ *   2   reactive, ETSI TS 102 687 V1.2.1, Table A.2      1 to   500
+ *   3   adaptive, ETSI TS 102 687 V1.2.1, clause 5.4     1 to 4,000
+ *   4   harmonised, ETSI EN 302 571, clause 4.2.10       1 to 4,000
+ *
+ * What they have in common: after an admission a gate is closed for at least 25,000 us and at most 1,000,000 us and the
+ * longest on-time, and in any 1,000,000 us it admits at most 30,000 us of on-time. Profiles 1 to 3 admit on-time for at
+ * most 3 % of any stretch of time and 4,000 us more; of profile 4 that is not claimed.
  */
 #ifndef PRESSCURLEW_H
 #define PRESSCURLEW_H
@@ -45,10 +53,10 @@ extern "C" {
  * write the log refuse stands with them.
  */
 enum presscurlew_refusal {
-    PRESSCURLEW_BAD_PROFILE = 1,  /* make: the profile is not 1 to 3, or when_full is above 1 */
+    PRESSCURLEW_BAD_PROFILE = 1,  /* make: the profile is not 1 to 4, or when_full is above 1 */
     PRESSCURLEW_CLOCK_BACK = 2,   /* from the last stamp to this one, modulo 2^32, are 2,147,483,648 us or more */
     PRESSCURLEW_CLOCK_END = 3,    /* the running time would pass 10^15 us, some 31 years */
-    PRESSCURLEW_BAD_SAMPLE = 4,   /* not 16 words, or a bit above bit 39 set in the last, or a busy count above 1,000 */
+    PRESSCURLEW_BAD_SAMPLE = 4,   /* not 1 to 12,500 probes, not just enough words, a stray bit, or busy above probes */
     PRESSCURLEW_BAD_PRIORITY = 5, /* the priority is above 3 */
     PRESSCURLEW_BAD_ON_TIME = 6,  /* the profile does not allow this on-time */
     PRESSCURLEW_BAD_LIFETIME = 7, /* the lifetime is 0 or above 60,000,000 */
@@ -162,6 +170,7 @@ typedef struct presscurlew_tuning {
     uint32_t smoothed; /* the smoothed load, at most 1,000,000; profile 3 moves it */
     uint32_t kept;     /* profile 3: the load of the first sample of a pair, at most 1,000,000; 0 if none is kept */
     uint32_t pairing;  /* 1 while a sample is kept, else 0 */
+    uint32_t latest;   /* profile 4: the load of the latest sample, at most 1,000,000, 0 before any; else 0 */
 } presscurlew_tuning;
 
 /* What a gate does with an offer that finds 5 unexpired packets of its priority; it is said when the gate is made. */
@@ -170,7 +179,7 @@ enum presscurlew_when_full {
     PRESSCURLEW_REFUSE_NEW = 1   /* QUEUE_FULL: what was taken once is sent or expires, and is never displaced */
 };
 
-/* The state of one gate: 1,096 bytes. */
+/* The state of one gate: 1,104 bytes. */
 typedef struct presscurlew_state {
     presscurlew_queue queues[4]; /* by priority */
     presscurlew_ledger ledger;
@@ -178,7 +187,7 @@ typedef struct presscurlew_state {
     presscurlew_last last;
     presscurlew_counts counts;
     presscurlew_tuning tuning;
-    uint32_t profile; /* 1 to 3, as it was made; no call changes it */
+    uint32_t profile; /* 1 to 4, as it was made; no call changes it */
     uint32_t oldway;  /* 0 or 1, an enum presscurlew_when_full, as it was made; no call changes it */
     uint32_t live;    /* 1; 0 in the all-zero state that a refused make hands back */
 } presscurlew_state;
@@ -196,7 +205,7 @@ enum presscurlew_kind {
 /* The answer to a call. What its kind does not use is 0. */
 typedef struct presscurlew_reply {
     presscurlew_packet packet; /* SENT: the whole packet */
-    uint64_t number;           /* CLOSED: the us left, 1 to 1,001,000; REFUSED: the refusal, 1 to 9 or 11 */
+    uint64_t number;           /* CLOSED: the us left, 1 to 1,004,000; REFUSED: the refusal, 1 to 9 or 11 */
     uint32_t kind;             /* an enum presscurlew_kind */
 } presscurlew_reply;
 
@@ -207,36 +216,52 @@ typedef struct presscurlew_turn {
 } presscurlew_turn;
 
 /*
- * A fresh state: running time 0, level 0, duty 600,000, smoothed load 0, nothing kept, nothing admitted,
- * nothing waiting, nothing counted. `when_full` is an enum presscurlew_when_full, which the state keeps, and
- * `stamp` is the radio's clock now. READY.
+ * A fresh state: running time 0, level 0, duty 600,000, smoothed and latest load 0, nothing kept, nothing
+ * admitted, nothing waiting, nothing counted. `when_full` is an enum presscurlew_when_full, which the state
+ * keeps, and `stamp` is the radio's clock now. READY.
  *
  * Refusals: BAD_PROFILE, with the all-zero state, which every other call refuses with NO_STATE.
  */
 presscurlew_turn presscurlew_make(uint32_t profile, uint32_t when_full, uint32_t stamp);
 
 /*
- * A sample of the channel: 1,000 probes in 16 words. Probe k is bit k mod 64 of word k / 64, and is 1 where
- * the channel was busy; the bits above bit 39 of the last word are 0. TAKEN. `words` points to `count` words,
- * which are only read; with count 0 it may be NULL.
+ * A sample has so many probes at most, and so many words; fewer probes have just as many words as they need. That is
+ * the size of an array, too: uint64_t words[PRESSCURLEW_WORDS(1000)].
+ */
+enum { PRESSCURLEW_MOST_PROBES = 12500, PRESSCURLEW_MOST_WORDS = 196 };
+#define PRESSCURLEW_WORDS(probes) (((probes) + 63) / 64)
+
+/*
+ * A sample of the channel: 1 to 12,500 probes, 64 in a word. Probe k is bit k mod 64 of word k / 64, and is 1 where the
+ * channel was busy; the bits of the last word that are no probes are 0. TAKEN. `words` points to `count` words, which
+ * are only read; with count 0 it may be NULL.
  *
- * Load is 1,000 for each busy probe. Profiles 1 and 2 move the level by at most one towards the one that the
- * load wants. Profile 3 keeps each odd sample, and with each even one updates smoothed load and duty. A
- * sample expires nothing and counts nothing. It drops aged admissions from the ledger, as every call does that is
- * not refused.
+ *   load = floor(1,000,000 x busy / probes)
  *
- *   uint64_t words[16] = {0};
- *   for (unsigned k = 0; k < 1000; k++)
+ * With 1,000 probes that is 1,000 for each busy one; with 12,500, a probe each 8 us for 100 ms, 80. The number of
+ * probes may differ from sample to sample, and nothing but the load is made of it. Profiles 1 and 2 move the level by
+ * at most one towards the one that the load wants. Profile 3 keeps each odd sample, and with each even one updates
+ * smoothed load and duty. Profile 4 notes the load in place of the one before. A sample expires nothing and counts
+ * nothing. It drops aged admissions from the ledger, as every call does that is not refused.
+ *
+ *   uint64_t words[PRESSCURLEW_WORDS(12500)] = {0};
+ *   for (unsigned k = 0; k < 12500; k++)
  *       if (channel_was_busy(k))
  *           words[k / 64] |= UINT64_C(1) << k % 64;
- *   turn = presscurlew_sample_words(state, words, 16, radio_clock());
+ *   turn = presscurlew_sample_words(state, 12500, words, PRESSCURLEW_WORDS(12500), radio_clock());
  *
- * Refusals: NO_STATE, CLOCK_BACK, CLOCK_END, BAD_SAMPLE.
+ * Refusals: NO_STATE, CLOCK_BACK, CLOCK_END; BAD_SAMPLE if `probes` is not 1 to 12,500, `count` is not that number of
+ * probes over 64, rounded up, or a bit of the last word is 1 that is no probe. Where 64 divides the probes all bits are
+ * probes.
  */
-presscurlew_turn presscurlew_sample_words(presscurlew_state state, const uint64_t *words, size_t count, uint32_t stamp);
+presscurlew_turn presscurlew_sample_words(presscurlew_state state, uint32_t probes, const uint64_t *words, size_t count,
+                                          uint32_t stamp);
 
-/* The same, where the radio has counted the busy probes: `busy` of 1,000. */
-presscurlew_turn presscurlew_sample_count(presscurlew_state state, uint32_t busy, uint32_t stamp);
+/*
+ * The same, where the radio has counted the busy probes: `busy` of `probes`. BAD_SAMPLE if `probes` is not 1 to 12,500,
+ * or `busy` is above it.
+ */
+presscurlew_turn presscurlew_sample_count(presscurlew_state state, uint32_t busy, uint32_t probes, uint32_t stamp);
 
 /*
  * A packet to send. The clock moves, every expired packet of all queues is removed and counted, and the packet
@@ -336,15 +361,16 @@ static inline void presscurlew_put_offer(uint8_t *record, uint32_t id, uint32_t 
  * admissions have aged. Polled so much later this packet goes, and not 1 us before, unless a sample, an offer or its
  * own expiry came between.
  *
- * presscurlew_wait, below, says what the wait is; it is taken afresh at each poll, with the level or duty of
- * that moment. It starts
- *   profiles 1 and 2   when the transmitter stops: the on-time of the packet admitted last after its admission
+ * presscurlew_wait, below, says what the wait is; it is taken afresh at each poll, with the level, duty or latest
+ * load of that moment. It starts
+ *   profiles 1, 2, 4   when the transmitter stops: the on-time of the packet admitted last after its admission
  *   profile 3          at the admission
  * so a poll that finds a packet sends it if the last admission is this long ago, or longer (by then the ledger is
  * empty), and CLOSED never has more:
  *   profile 1          1,001,000 us
  *   profile 2          1,000,500 us
  *   profile 3          1,000,000 us
+ *   profile 4          1,004,000 us
  *
  * So a gate admits at most 30,000 us of on-time in any 1,000,000 us, wherever they begin.
  *
@@ -364,9 +390,12 @@ presscurlew_turn presscurlew_poll(presscurlew_state state, uint32_t stamp);
  *
  *   byte      0     1         2 and 3   4 to 7     8 to 11     12 to 15
  *   make      0     profile   0         when_full  0           stamp
- *   sample    1     0         0         0          busy        stamp
+ *   sample    1     0         0         probes     busy        stamp
  *   offer     2     priority  on-time   lifetime   identifier  stamp
  *   poll      3     0         0         0          0           stamp
+ *
+ * Of 1,000 probes the record says 0, and a record that says 0 is played as one of 1,000, as in logs of hosts that know
+ * no other number. (One that says 1,000 is played alike, but no call here writes it.)
  *
  * Record first, then call, so that the log of a crash has the last call in it:
  *
@@ -383,20 +412,22 @@ presscurlew_turn presscurlew_poll(presscurlew_state state, uint32_t stamp);
  * that is not refused as a whole.
  *
  * A log starts with a make, and has all calls on that one state in their order. A sample by words is in it by its
- * busy count, which is all that the gate looks at: played, it is answered alike, and so is all that comes after it.
- * So the host may take the count from the record, and make the sample by it; the words are then counted once.
+ * busy count and its probe count, which are all that the gate looks at: played, it is answered alike, and so is all
+ * that comes after it. So the host may take the busy count from the record, and make the sample by it; the words are
+ * then counted once.
  *
  * A refusal writes nothing. It comes where a number does not fit its bytes, whatever the gate would make of it:
- * profile 77, priority 200 or a busy count of 5,000 are written, and played they are refused as they were. The first
- * of these that holds is the answer:
+ * profile 77, priority 200, 5,000 busy of 1,000 probes or any of 20,000 are written, and played they are refused as
+ * they were. The first of these that holds is the answer:
  *   PRESSCURLEW_BAD_PROFILE    make: the profile is above 255, or when_full is above 1
- *   PRESSCURLEW_BAD_SAMPLE     sample by words: not 16 words, or a bit above bit 39 set in the last
+ *   PRESSCURLEW_BAD_SAMPLE     sample by words: one that presscurlew_sample_words refuses; by count: 0 probes, as
+ *                              the 0 of a record means 1,000
  *   PRESSCURLEW_BAD_PRIORITY   offer: the priority is above 255
  *   PRESSCURLEW_BAD_ON_TIME    offer: the on-time is above 65,535
  *   PRESSCURLEW_NO_ROOM        any: there are no 16 bytes at `at`, however large it is
  * All but the last are calls that the gate refuses too, in any state, so that a log without them still leads from
  * state to state as the host went. A host that wants a record for each call writes, in place of such a one, one that
- * the gate refuses with the same number: profile 255, a busy count of 4,294,967,295, or presscurlew_put_offer.
+ * the gate refuses with the same number: profile 255, 4,294,967,295 busy of 1,000 probes, or presscurlew_put_offer.
  *
  * What the caller answers for: `log` points to `bytes` bytes, of which none is a byte of the words. With 0 bytes it
  * may be NULL.
@@ -406,12 +437,13 @@ presscurlew_turn presscurlew_poll(presscurlew_state state, uint32_t stamp);
 uint32_t presscurlew_write_make(uint32_t profile, uint32_t when_full, uint32_t stamp, uint8_t *log, size_t bytes,
                                 size_t at);
 
-/* The record of presscurlew_sample_words: that of its busy count. Refusals: BAD_SAMPLE, NO_ROOM. */
-uint32_t presscurlew_write_sample_words(const uint64_t *words, size_t count, uint32_t stamp, uint8_t *log, size_t bytes,
-                                        size_t at);
+/* The record of presscurlew_sample_words: that of its busy count, of so many probes. Refusals: BAD_SAMPLE, NO_ROOM. */
+uint32_t presscurlew_write_sample_words(uint32_t probes, const uint64_t *words, size_t count, uint32_t stamp,
+                                        uint8_t *log, size_t bytes, size_t at);
 
-/* The record of presscurlew_sample_count. Refusals: NO_ROOM. */
-uint32_t presscurlew_write_sample_count(uint32_t busy, uint32_t stamp, uint8_t *log, size_t bytes, size_t at);
+/* The record of presscurlew_sample_count. Refusals: BAD_SAMPLE, NO_ROOM. */
+uint32_t presscurlew_write_sample_count(uint32_t busy, uint32_t probes, uint32_t stamp, uint8_t *log, size_t bytes,
+                                        size_t at);
 
 /* The record of presscurlew_offer. Refusals: BAD_PRIORITY, BAD_ON_TIME, NO_ROOM. */
 uint32_t presscurlew_write_offer(uint32_t id, uint32_t priority, uint32_t ontime, uint32_t lifetime, uint32_t stamp,
@@ -426,13 +458,14 @@ uint32_t presscurlew_write_poll(uint32_t stamp, uint8_t *log, size_t bytes, size
  *
  * The refusal numbers of the rules. Every answer's first field has one: 0, PRESSCURLEW_BAD_PROFILE,
  * PRESSCURLEW_BAD_ON_TIME or one of these. 4 and 9 mean something else here than in the gate. They are tested
- * in the order 1, 9, 4, 6, as they apply, and the first that holds is the answer. With a refusal, the
- * answer's other fields are 0.
+ * in the order 1, 9, 4, 6, as they apply, and the first that holds is the answer; the floating update has 14
+ * and no other. With a refusal, the answer's other fields are 0.
  */
 enum presscurlew_rule_refusal {
-    PRESSCURLEW_ACCEPTED = 0,    /* no refusal: the other fields are the answer */
-    PRESSCURLEW_BAD_LOAD = 4,    /* a load is above 1,000,000 */
-    PRESSCURLEW_OUT_OF_RANGE = 9 /* the level is above 4, or the duty is not 600,000 to 30,000,000 */
+    PRESSCURLEW_ACCEPTED = 0,     /* no refusal: the other fields are the answer */
+    PRESSCURLEW_BAD_LOAD = 4,     /* a load is above 1,000,000 */
+    PRESSCURLEW_OUT_OF_RANGE = 9, /* the level is above 4, or the duty is not 600,000 to 30,000,000 */
+    PRESSCURLEW_BAD_FLOAT = 14    /* presscurlew_float_update alone: a number is out of its limits, or not a number */
 };
 
 /* What presscurlew_wanted_level and presscurlew_level_step answer. */
@@ -487,23 +520,66 @@ presscurlew_level_answer presscurlew_level_step(uint32_t profile, uint32_t load,
 presscurlew_duty_answer presscurlew_duty_update(uint32_t duty, uint32_t smoothed, uint32_t kept, uint32_t new_load);
 
 /*
- * The wait before the next admission, in microseconds. `ontime` is that of the packet admitted last. In
- * profiles 1 and 2 the wait runs from that packet's end, `ontime` after its admission, and the on-time is no
- * part of the number; in profile 3 it runs from the admission, start to start. Level, duty and on-time are
- * judged in every profile, also where it does not use them; pass 0 as level in profile 3, and 600,000 as
- * duty in profiles 1 and 2.
+ * The wait before the next admission, in microseconds. `ontime` is that of the packet admitted last, and `load` the
+ * load of the latest sample, 0 before any. In profiles 1, 2 and 4 the wait runs from that packet's end, `ontime` after
+ * its admission, and the on-time is not added to the number; in profile 3 it runs from the admission, start to start.
+ * All are judged in every profile, also where it does not use them; pass 0 as level and as load, and 600,000 as duty,
+ * where the profile has none.
  *
  *   level        0        1        2        3        4
  *   profile 1    100,000  200,000  400,000  500,000  1,000,000
  *   profile 2     50,000  100,000  200,000  250,000  1,000,000
  *   profile 3    ceil(ontime x 1,000,000,000 / duty), held in 25,000 to 1,000,000
+ *   profile 4    with c = ceil(load / 1,000), the load in per mille: 25,000 for c up to 620, else
+ *                (3,999 - floor(2,480,000 / c)) x ontime, held in 25,000 to 1,000,000
  *
- * Level and duty change with each sample, so take the wait afresh each time that it is needed.
+ * In profile 4 the factor before the on-time is 6 for c = 621, 12 for 622, 457 for 700 and 1,519 for 1,000. The wait is
+ * never shorter than that of the published formula, without rounding and held in the same limits.
  *
- * Refusals: 1 if profile is not 1 to 3; 9 if level is above 4, or duty is not 600,000 to 30,000,000;
- * 6 if the profile does not allow the on-time.
+ * Level, duty and load change with each sample, so take the wait afresh each time that it is needed.
+ *
+ * Refusals: 1 if profile is not 1 to 4; 9 if level is above 4, or duty is not 600,000 to 30,000,000; 4 if load is above
+ * 1,000,000; 6 if the profile does not allow the on-time.
  */
-presscurlew_wait_answer presscurlew_wait(uint32_t profile, uint32_t level, uint32_t duty, uint32_t ontime);
+presscurlew_wait_answer presscurlew_wait(uint32_t profile, uint32_t level, uint32_t duty, uint32_t ontime,
+                                         uint32_t load);
+
+/* What presscurlew_float_update answers. With a refusal, both numbers are +0.0. */
+typedef struct presscurlew_float_answer {
+    uint32_t refusal;
+    double smoothed; /* share of time that the channel is busy, 0.0 to 1.0 */
+    double duty;     /* share of time on air, 0.0006 to 0.03 */
+} presscurlew_float_answer;
+
+/*
+ * Profile 3's update in floating point, for simulations: the gate itself never uses it. `kept` is the load of the first
+ * sample of a pair and `new_load` that of the second, as fractions of 1. Keep the answer's smoothed load and duty for
+ * the next call; to start as a fresh gate does, take duty 0.0006 and smoothed load 0.0.
+ *
+ * The numbers handed back are, bit for bit, those of this sequence in IEEE 754's binary64, each operation rounded
+ * once, to nearest with ties to even, and each constant the double nearest to what is written:
+ *
+ *   a = 0.5 * smoothed
+ *   b = kept + new_load
+ *   c = b / 2.0
+ *   d = 0.5 * c
+ *   smoothed' = a + d
+ *   e = 0.68 - smoothed'
+ *   f = e * 0.0012
+ *   offset = e > 0.0 ? the smaller of f and 0.0005 : the larger of f and -0.00025
+ *   g = (1.0 - 0.016) * duty
+ *   h = g + offset
+ *   duty' = h, held within 0.0006 and 0.03
+ *
+ * Nothing is fused and nothing kept in more digits. A simulation that wants the same bits has to be compiled so, too:
+ * with GCC -ffp-contract=off, and without -ffast-math. The caller's rounding mode is to-nearest, as a C program starts,
+ * and subnormal numbers are not flushed to zero. Where nothing is refused, the answer's duty is within its two limits.
+ * That the numbers come near those of presscurlew_duty_update is not claimed.
+ *
+ * Refusals: 14 if smoothed, kept or new_load does not compare as 0.0 to 1.0, or duty not as 0.0006 to 0.03.
+ * Not-a-number never does; negative zero compares as 0.0, and goes through as it is.
+ */
+presscurlew_float_answer presscurlew_float_update(double duty, double smoothed, double kept, double new_load);
 
 #ifdef __cplusplus
 }

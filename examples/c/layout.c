@@ -41,6 +41,7 @@ static void parts(void) {
     FIELD(tuning, smoothed);
     FIELD(tuning, kept);
     FIELD(tuning, pairing);
+    FIELD(tuning, latest);
 }
 
 static void wholes(void) {

@@ -20,6 +20,9 @@
 
 static const uint32_t START = 4294000000, TICK_US = 10000, TICKS = 300;
 
+/* The radio probes the channel each 8 us, and is asked each 100 ms. */
+enum { PROBES = 12500, WORDS = PRESSCURLEW_WORDS(PROBES) };
+
 /* What the host sends. */
 typedef struct message {
     const char *name;
@@ -88,23 +91,23 @@ static void note(const host *h, const presscurlew_reply *reply) {
     fputc('\n', h->answers);
 }
 
-/* 1,000 probes of the channel, of which so many are busy. */
-static void hear_channel(uint64_t words[16], unsigned busy) {
-    memset(words, 0, 16 * sizeof words[0]);
-    for (unsigned k = 0; k < 1000; k++)
-        if (k * 7919 % 1000 < busy)
+/* The probes of the channel, of which so many are busy. */
+static void hear_channel(uint64_t words[WORDS], unsigned busy) {
+    memset(words, 0, WORDS * sizeof words[0]);
+    for (unsigned k = 0; k < PROBES; k++)
+        if (k * 7919 % PROBES < busy)
             words[k / 64] |= UINT64_C(1) << k % 64;
 }
 
 static void sample(host *h, unsigned busy) {
     uint32_t level = h->state.tuning.level;
-    uint64_t words[16];
+    uint64_t words[WORDS];
     uint8_t call[PRESSCURLEW_RECORD_BYTES];
 
     hear_channel(words, busy);
-    presscurlew_write_sample_words(words, 16, h->now, call, sizeof call, 0);
+    presscurlew_write_sample_words(PROBES, words, WORDS, h->now, call, sizeof call, 0);
     record(h, call, 1);
-    presscurlew_turn turn = presscurlew_sample_words(h->state, words, 16, h->now);
+    presscurlew_turn turn = presscurlew_sample_words(h->state, PROBES, words, WORDS, h->now);
     h->state = turn.state;
     note(h, &turn.reply);
     /* The wait may be another one now, so the next poll is not put off any longer. */
@@ -187,7 +190,7 @@ static int has_come(const host *h, uint32_t moment) { return h->now - moment < U
 
 static void tick(host *h, unsigned t) {
     if (t % 10 == 0)
-        sample(h, t < 50 ? 200 : t < 150 ? 700 : 100);
+        sample(h, t < 50 ? 2500 : t < 150 ? 8750 : 1250);
     if (t % 50 == 2)
         prepare(h, WARNING);
     if (t % 20 == 1)

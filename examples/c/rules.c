@@ -1,6 +1,7 @@
 /*
  * The rules on plain numbers, called as a radio stack in C would: a channel that turns loud and quiet
- * again under profile 1, profile 3's duty under a steady load, the waits that follow, and refusals.
+ * again under profile 1, profile 3's duty under a steady load, profile 4 where the load turns loud, the waits that
+ * follow, and refusals.
  */
 #include <inttypes.h>
 #include <stdio.h>
@@ -17,7 +18,7 @@ static void reactive(void) {
         presscurlew_level_answer wanted = presscurlew_wanted_level(1, loads[i]);
         presscurlew_level_answer next = presscurlew_level_step(1, loads[i], level);
         level = next.level;
-        presscurlew_wait_answer wait = presscurlew_wait(1, level, 600000, 400);
+        presscurlew_wait_answer wait = presscurlew_wait(1, level, 600000, 400, 0);
         printf("  load %7" PRIu32 "  wants %" PRIu32 "  level %" PRIu32 "  wait %7" PRIu32 " us\n", loads[i], wanted.level,
                level, wait.wait);
     }
@@ -32,9 +33,21 @@ static void adaptive(void) {
         presscurlew_duty_answer next = presscurlew_duty_update(duty, smoothed, 400000, 400000);
         duty = next.duty;
         smoothed = next.smoothed;
-        presscurlew_wait_answer wait = presscurlew_wait(3, 0, duty, 751);
+        presscurlew_wait_answer wait = presscurlew_wait(3, 0, duty, 751, 0);
         printf("  pair %d  smoothed %6" PRIu32 "  duty %8" PRIu32 "  wait %7" PRIu32 " us\n", pair, smoothed, duty,
                wait.wait);
+    }
+}
+
+/* The latest load alone says what the wait is: no longer than the least up to 62 %, above it many times the on-time. */
+static void harmonised(void) {
+    static const uint32_t loads[] = {0, 620000, 620001, 621001, 700000, 1000000};
+
+    puts("Profile 4: the wait after 500 and after 4000 us on air goes by the latest load");
+    for (size_t i = 0; i < sizeof loads / sizeof loads[0]; i++) {
+        presscurlew_wait_answer brief = presscurlew_wait(4, 0, 600000, 500, loads[i]);
+        presscurlew_wait_answer full = presscurlew_wait(4, 0, 600000, 4000, loads[i]);
+        printf("  load %7" PRIu32 "  wait %7" PRIu32 " us and %7" PRIu32 " us\n", loads[i], brief.wait, full.wait);
     }
 }
 
@@ -55,10 +68,11 @@ static const char *refusal_name(uint32_t refusal) {
     }
 }
 
-static void show_wait(uint32_t profile, uint32_t level, uint32_t duty, uint32_t ontime) {
-    presscurlew_wait_answer answer = presscurlew_wait(profile, level, duty, ontime);
-    printf("  wait(%" PRIu32 ", %" PRIu32 ", %" PRIu32 ", %" PRIu32 "): refusal %" PRIu32 " %s, wait %" PRIu32 "\n", profile,
-           level, duty, ontime, answer.refusal, refusal_name(answer.refusal), answer.wait);
+static void show_wait(uint32_t profile, uint32_t level, uint32_t duty, uint32_t ontime, uint32_t load) {
+    presscurlew_wait_answer answer = presscurlew_wait(profile, level, duty, ontime, load);
+    printf("  wait(%" PRIu32 ", %" PRIu32 ", %" PRIu32 ", %" PRIu32 ", %" PRIu32 "): ", profile, level, duty, ontime,
+           load);
+    printf("refusal %" PRIu32 " %s, wait %" PRIu32 "\n", answer.refusal, refusal_name(answer.refusal), answer.wait);
 }
 
 /* The first test that holds gives the number, and the other numbers are 0. */
@@ -66,11 +80,12 @@ static void refusals(void) {
     presscurlew_level_answer loud = presscurlew_wanted_level(2, 1000001);
 
     puts("Refusals, in the order 1, 9, 4, 6");
-    show_wait(4, 5, 0, 0);
-    show_wait(2, 5, 600000, 0);
-    show_wait(2, 4, 599999, 0);
-    show_wait(2, 4, 600000, 501);
-    show_wait(2, 4, 600000, 500);
+    show_wait(5, 5, 0, 0, 1000001);
+    show_wait(2, 5, 600000, 0, 1000001);
+    show_wait(2, 4, 599999, 0, 1000001);
+    show_wait(2, 4, 600000, 501, 1000001);
+    show_wait(2, 4, 600000, 501, 1000000);
+    show_wait(2, 4, 600000, 500, 1000000);
     printf("  wanted_level(2, 1000001): refusal %" PRIu32 " %s, level %" PRIu32 "\n", loud.refusal,
            refusal_name(loud.refusal), loud.level);
 }
@@ -78,6 +93,7 @@ static void refusals(void) {
 int main(void) {
     reactive();
     adaptive();
+    harmonised();
     refusals();
     return 0;
 }

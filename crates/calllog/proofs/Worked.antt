@@ -55,8 +55,14 @@ made-anew : (s : State) → stepOn s (ofKind 0) ≡ makeState (record { profile 
 unfolding stepOn askedBy ofKind
 made-anew s = refl
 
+-- a record that says 4 makes a gate of profile 4 (document 02, W-209), and one that says 5 makes none
+made-harmonised : (s : State)
+    → stepOn s (record { kind = 0; priority = 4; ontime = 0; lifetime = 0; id = 0; stamp = 9 }) .answer ≡ Ready
+unfolding of-states of-logs
+made-harmonised s = refl
+
 refused-make : (s : State)
-    → stepOn s (record { kind = 0; priority = 4; ontime = 0; lifetime = 0; id = 0; stamp = 9 }) ≡ outcome atStart (Refused 1)
+    → stepOn s (record { kind = 0; priority = 5; ontime = 0; lifetime = 0; id = 0; stamp = 9 }) ≡ outcome atStart (Refused 1)
 unfolding of-states of-logs
 refused-make s = refl
 

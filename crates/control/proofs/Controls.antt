@@ -5,7 +5,7 @@ use mathlib.Core.Path.{_≡_, refl}
 use mathlib.Core.Bool.{true, false}
 use native.Mathlib.Omega.{arith}
 use lib.Dec.{leb, eqb}
-use borrow.Author.Tests.{le-leb, eq-eqb}
+use borrow.Author.Tests.{le-leb, eq-eqb, eqb-false}
 use Rattle.rules.specs.Tests.{allOf}
 use Rattle.rules.specs.Profiles.{profile3, fullLoad, topLevel, isProfile, isReactive, reactiveOf, dutyAllowed}
 use Rattle.rules.specs.Levels.{wantedBy}
@@ -16,14 +16,15 @@ use Rattle.rules.proofs.Profiles.{duty-within}
 use Rattle.rules.proofs.Levels.{wanted-le, towards-le}
 use Rattle.rules.proofs.Duty.{smoothed-le, duty-held}
 use Rattle.control.specs.declared.Tuning.{Tuning}
-use Rattle.control.specs.Control.{Control, controlOf, freshControl, pairingSound, tuningRules, controlRules}
-use Rattle.control.specs.Control.{soundControl, levelStepped, paired, sampled}
+use Rattle.control.specs.Control.{Control, controlOf, freshControl, pairingSound, latestSound}
+use Rattle.control.specs.Control.{tuningRules, controlRules, soundControl, levelStepped, paired, noted, sampled}
 
 pub record SoundTuning (profile : ℕ) (t : Tuning) : Type 0 where
   pub level : t .level ≤ topLevel
   pub duty : dutyAllowed (t .duty) ≡ true
   pub smoothed : t .smoothed ≤ fullLoad
   pub kept : t .kept ≤ fullLoad
+  pub latest : latestSound profile (t .latest) ≡ true
   pub flag : t .pairing ≤ 1
   pub pairing : pairingSound profile t ≡ true
 
@@ -40,8 +41,9 @@ test-tuning profile t e =
       duty = h .1 .0;
       smoothed = omega (tested, h .1 .1 .0);
       kept = omega (tested, h .1 .1 .1 .0);
-      flag = omega (tested, h .1 .1 .1 .1 .0);
-      pairing = h .1 .1 .1 .1 .1 .0;
+      latest = h .1 .1 .1 .1 .0;
+      flag = omega (tested, h .1 .1 .1 .1 .1 .0);
+      pairing = h .1 .1 .1 .1 .1 .1 .0;
     }
 
 tuning-test : (profile : ℕ) (t : Tuning) → SoundTuning profile t → allOf (tuningRules profile t) ≡ true
@@ -51,6 +53,7 @@ tuning-test profile t h =
       h .duty,
       le-leb _ _ (h .smoothed),
       le-leb _ _ (h .kept),
+      h .latest,
       le-leb _ _ (h .flag),
       h .pairing,
     )
@@ -65,6 +68,11 @@ pub control-test : (k : Control) → SoundControl k → soundControl k ≡ true
 unfolding soundControl
 control-test k h = rw (h .profile, tuning-test (k .profile) (k .tuning) (h .tuning))
 
+-- no load is a latest load in every profile
+no-latest : (profile : ℕ) → latestSound profile 0 ≡ true
+unfolding latestSound
+no-latest profile = on-cond (λ u. u ≡ true) (eqb profile 4) (λ e. refl) (λ e. refl)
+
 -- a fresh one
 pub fresh-control : (profile : ℕ) → isProfile profile ≡ true → SoundControl (freshControl profile)
 unfolding pairingSound
@@ -77,6 +85,7 @@ fresh-control profile e =
             duty = true-within _ _ _ (omega arith) (omega arith);
             smoothed = omega arith;
             kept = omega arith;
+            latest = no-latest profile;
             flag = omega arith;
             pairing = refl;
           };
@@ -87,10 +96,12 @@ pub sampled-profile : (k : Control) (load : ℕ) → sampled k load .profile ≡
 unfolding sampled
 sampled-profile k load = refl
 
-not-reactive : (profile : ℕ) → isProfile profile ≡ true → isReactive profile ≡ false → profile ≡ 3
-not-reactive profile e f =
+-- a profile that is neither reactive nor harmonised is the adaptive one
+adaptive : (profile : ℕ) → isProfile profile ≡ true → isReactive profile ≡ false → eqb profile 4 ≡ false → profile ≡ 3
+adaptive profile e f g =
     let h = within-true _ _ profile e in
-    split (leb profile 2) (λ u. clash (cc (true-within 1 2 profile (h .0) (omega tested)))) (λ u. omega (tested, h .1))
+    split (leb profile 2) (λ u. clash (cc (true-within 1 2 profile (h .0) (omega tested))))
+    (λ u. omega (tested, h .1, eqb-false profile 4 g))
 
 stepped-sound : (profile : ℕ) (t : Tuning) (load : ℕ) → SoundTuning profile t → SoundTuning profile (levelStepped profile t load)
 unfolding pairingSound
@@ -100,6 +111,7 @@ stepped-sound profile t load h =
       duty = h .duty;
       smoothed = h .smoothed;
       kept = h .kept;
+      latest = h .latest;
       flag = h .flag;
       pairing = h .pairing;
     }
@@ -114,6 +126,7 @@ paired-sound profile t load e a h =
       duty = duty-held (t .duty) (smoothedOf (t .smoothed) (t .kept) load);
       smoothed = smoothed-le (t .smoothed) (t .kept) load (h .smoothed) (h .kept) a;
       kept = omega arith;
+      latest = h .latest;
       flag = omega arith;
       pairing = refl;
     })
@@ -122,21 +135,45 @@ paired-sound profile t load e a h =
       duty = h .duty;
       smoothed = h .smoothed;
       kept = a;
+      latest = h .latest;
       flag = omega arith;
       pairing = eq-eqb profile 3 e;
     })
+
+noted-sound : (profile : ℕ) (t : Tuning) (load : ℕ) → eqb profile 4 ≡ true → load ≤ fullLoad → SoundTuning profile t
+    → SoundTuning profile (noted t load)
+unfolding pairingSound latestSound
+noted-sound profile t load e a h =
+    record {
+      level = h .level;
+      duty = h .duty;
+      smoothed = h .smoothed;
+      kept = h .kept;
+      latest = rw e (le-leb _ _ a);
+      flag = h .flag;
+      pairing = h .pairing;
+    }
 
 pub sampled-sound : (k : Control) (load : ℕ) → load ≤ fullLoad → SoundControl k → SoundControl (sampled k load)
 unfolding sampled
 sampled-sound k load a h =
     on-cond (λ (t : Tuning). SoundControl (controlOf (k .profile) t)) (isReactive (k .profile))
     (λ e. record { profile = h .profile; tuning = stepped-sound (k .profile) (k .tuning) load (h .tuning) })
-    (λ e. record {
+    (λ e. on-cond (λ (t : Tuning). SoundControl (controlOf (k .profile) t)) (eqb (k .profile) 4)
+    (λ f. record { profile = h .profile; tuning = noted-sound (k .profile) (k .tuning) load f a (h .tuning) })
+    (λ f. record {
       profile = h .profile;
-      tuning = paired-sound (k .profile) (k .tuning) load (not-reactive (k .profile) (h .profile) e) a (h .tuning);
-    })
+      tuning = paired-sound (k .profile) (k .tuning) load (adaptive (k .profile) (h .profile) e f) a (h .tuning);
+    }))
 
 -- the limits of a sound duty
 pub duty-limits : (k : Control) → soundControl k ≡ true
     → (profile3 .leastduty ≤ k .tuning .duty) × (k .tuning .duty ≤ profile3 .mostduty)
 duty-limits k sound = duty-within (k .tuning .duty) (test-control k sound .tuning .duty)
+
+-- a sound latest load is a load, in every profile
+pub latest-le : (k : Control) → soundControl k ≡ true → k .tuning .latest ≤ fullLoad
+unfolding latestSound
+latest-le k sound =
+    let h = test-control k sound .tuning .latest in
+    split (eqb (k .profile) 4) (λ e. omega (tested, rw e at h)) (λ e. omega (tested, rw e at h))

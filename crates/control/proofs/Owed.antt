@@ -6,10 +6,12 @@ use mathlib.Core.Bool.{true}
 use native.Mathlib.Nat.{mul-le-mul-left}
 use native.Mathlib.Omega.{arith}
 use Rattle.rules.specs.declared.Limits.{Limits}
-use Rattle.rules.specs.Profiles.{profile1, profile2, profile3, isProfile, limitsOf, mostOntime}
+use Rattle.rules.specs.Profiles.{profile1, profile2, profile3, limitsOf, mostOntime}
 use Rattle.rules.specs.Wait.{startOf}
 use Rattle.rules.proofs.Profiles.{allowed, on-limits, by-profile}
+use Rattle.rules.proofs.Cases.{within-true}
 use Rattle.rules.proofs.Waits.{Within, within1, within2, within3, adaptive-spaced}
+use Rattle.rules.proofs.Factors.{within4}
 use Rattle.control.specs.Control.{Control, soundControl}
 use Rattle.control.specs.Wait.{waitOf}
 use Rattle.control.specs.Owed.{spare, leastGap, second, quiet, Floors, claimsCeiling}
@@ -18,7 +20,7 @@ use Rattle.control.proofs.Controls.{test-control, duty-limits}
 
 pub floors : Floors
 unfolding startOf mostOntime quiet
-floors = (refl, refl, refl)
+floors = (refl, refl, refl, refl)
 
 -- the one fact that a profile owes
 within-limits : (k : Control) (ontime : ℕ) → soundControl k ≡ true → Within (limitsOf (k .profile)) (waitOf k ontime)
@@ -28,6 +30,7 @@ within-limits k ontime sound =
     (λ e. rw e (within1 (k .tuning .level)))
     (λ e. rw e (within2 (k .tuning .level)))
     (λ e. rw e (within3 ontime (k .tuning .duty)))
+    (λ e. rw e (within4 ontime (k .tuning .latest)))
     (k .profile) (test-control k sound .profile) refl
 
 pub all-keep : AllKeep
@@ -36,9 +39,9 @@ all-keep k ontime s =
     let l = limitsOf (k .profile) in
     let w = within-limits k ontime (s .0) in
     let least =
-    on-limits (λ l. leastGap ≤ l .leastwait) (k .profile) (omega arith) (omega arith) (omega arith) in
+    on-limits (λ l. leastGap ≤ l .leastwait) (k .profile) (omega arith) (omega arith) (omega arith) (omega arith) in
     let long =
-    on-limits (λ l. second ≤ l .mostwait) (k .profile) (omega arith) (omega arith) (omega arith) in
+    on-limits (λ l. second ≤ l .mostwait) (k .profile) (omega arith) (omega arith) (omega arith) (omega arith) in
     record {
       longest = omega (arith, mul-le-mul-left (l .fromend) (allowed (k .profile) ontime (s .1) .1), w .1);
       apart = omega (arith, least, w .0);
@@ -50,7 +53,7 @@ spaced-by : (k : Control) (ontime : ℕ) → Allowed k ontime → 100 * ontime �
 unfolding mostOntime
 spaced-by k ontime s h =
     let most =
-    on-limits (λ l. 100 * l .ontime ≤ spare) (k .profile) (omega arith) (omega arith) (omega arith) in
+    on-limits (λ l. 100 * l .ontime ≤ spare) (k .profile) (omega arith) (omega arith) (omega arith) (omega arith) in
     record { spaced = omega arith; alone = omega (arith, most, allowed (k .profile) ontime (s .1) .1) }
 
 -- and it does where the least wait of the profile spaces the profile's longest on-time
@@ -79,14 +82,11 @@ adaptive-spaces k ontime s e =
     (rw e at o)))
 
 pub claimants-keep : ClaimantsKeep
+unfolding claimsCeiling
 claimants-keep k ontime s c =
     by-profile (λ n. k .profile ≡ n → KeepsCeiling k ontime)
     (λ e. least-spaces k ontime s (profile1 .limits) (ap limitsOf e) (omega arith))
     (λ e. least-spaces k ontime s (profile2 .limits) (ap limitsOf e) (omega arith))
     (λ e. adaptive-spaces k ontime s e)
+    (λ e. let claims = within-true _ _ (k .profile) c in absurd (omega (arith, e, claims .1)))
     (k .profile) (test-control k (s .0) .profile) refl
-
--- every profile of today claims the ceiling
-pub all-claim : (profile : ℕ) → isProfile profile ≡ true → claimsCeiling profile ≡ true
-unfolding claimsCeiling
-all-claim profile e = e

@@ -3,64 +3,86 @@
 use Prim.Native.Nat.{ℕ, _*_, _≤_}
 use mathlib.Core.Path.{_≡_, refl}
 use mathlib.Core.Bool.{true, false}
-use mathlib.Core.List.{List, [], _∷_, map}
+use mathlib.Core.List.{List, [], _∷_, _++_, map}
 use Rattle.rules.specs.Profiles.{within, reactiveOf, mostOntime, ontimeAllowed}
 use Rattle.rules.specs.Levels.{wantedBy, towards, waitBy}
 use Rattle.rules.specs.Duty.{smoothedOf, offsetOf, dutyOf}
 use Rattle.rules.specs.Wait.{adaptiveWait, startOf}
+use Rattle.rules.specs.Harmonised.{perMille, factorOf, harmonisedWait}
 use Rattle.control.specs.declared.Tuning.{Tuning}
-use Rattle.control.specs.Control.{Control, controlOf, freshControl, noControl, pairingSound, soundControl, sampled}
+use Rattle.control.specs.Control.{Control, controlOf, freshControl, noControl, pairingSound, latestSound}
+use Rattle.control.specs.Control.{soundControl, sampled}
 use Rattle.control.specs.Wait.{waitOf, closedAfter}
 use Rattle.control.specs.Owed.{spare, leastGap, second, quiet, claimsCeiling}
 use Rattle.control.proofs.Owed.{floors, all-keep, claimants-keep}
 
--- a control by its numbers: profile, level, duty, smoothed load, kept sample, whether one is kept
-abbrev control : (profile level duty smoothed kept pairing : ℕ) → Control
-control profile level duty smoothed kept pairing =
-    controlOf profile (record { level = level; duty = duty; smoothed = smoothed; kept = kept; pairing = pairing })
+-- a control by its numbers: profile, level, duty, smoothed load, kept sample, whether one is kept, latest load
+abbrev whole : (profile level duty smoothed kept pairing latest : ℕ) → Control
+whole profile level duty smoothed kept pairing latest =
+    controlOf profile (record {
+      level = level;
+      duty = duty;
+      smoothed = smoothed;
+      kept = kept;
+      pairing = pairing;
+      latest = latest;
+    })
 
--- "A fresh state: .. level 0, duty 600,000, smoothed load 0, no sample kept"
+-- one without a latest load
+abbrev control : (profile level duty smoothed kept pairing : ℕ) → Control
+control profile level duty smoothed kept pairing = whole profile level duty smoothed kept pairing 0
+
+-- "A fresh state: .. level 0, duty 600,000, smoothed load 0, no sample kept"; "0 before any sample" (W-209)
 fresh-controls :
-    map freshControl (1 ∷ 2 ∷ 3 ∷ [])
-    ≡ control 1 0 600000 0 0 0 ∷ control 2 0 600000 0 0 0 ∷ control 3 0 600000 0 0 0 ∷ []
+    map freshControl (1 ∷ 2 ∷ 3 ∷ 4 ∷ [])
+    ≡ whole 1 0 600000 0 0 0 0
+    ∷ whole 2 0 600000 0 0 0 0
+    ∷ whole 3 0 600000 0 0 0 0
+    ∷ whole 4 0 600000 0 0 0 0
+    ∷ []
 fresh-controls = refl
 
 -- "the all-zero, not live state"
-all-zero : noControl ≡ control 0 0 0 0 0 0
+all-zero : noControl ≡ whole 0 0 0 0 0 0 0
 all-zero = refl
 
 -- A sound control keeps all of the rules below; in each example the rest of the control is sound.
 unfoldable of-soundness : Type 0
-unfolding within pairingSound soundControl
+unfolding within pairingSound latestSound soundControl
 of-soundness = Unit {0}
 
--- "profile 1 to 3"
+-- "profile 1 to 3"; "a sound state may have profile 4" (W-209)
 sound-profiles :
-    map (λ (p : ℕ). soundControl (control p 0 600000 0 0 0)) (0 ∷ 1 ∷ 2 ∷ 3 ∷ 4 ∷ [])
-    ≡ false ∷ true ∷ true ∷ true ∷ false ∷ []
+    map (λ (p : ℕ). soundControl (control p 0 600000 0 0 0)) (0 ∷ 1 ∷ 2 ∷ 3 ∷ 4 ∷ 5 ∷ [])
+    ≡ false ∷ true ∷ true ∷ true ∷ true ∷ false ∷ []
 unfolding of-soundness
 sound-profiles = refl
 
 -- "level at most 4", in every profile
 sound-levels :
-    map (λ (p : ℕ). map (λ (level : ℕ). soundControl (control p level 600000 0 0 0)) (0 ∷ 4 ∷ 5 ∷ [])) (1 ∷ 2 ∷ 3 ∷ [])
-    ≡ (true ∷ true ∷ false ∷ []) ∷ (true ∷ true ∷ false ∷ []) ∷ (true ∷ true ∷ false ∷ []) ∷ []
+    map (λ (p : ℕ). map (λ (level : ℕ). soundControl (control p level 600000 0 0 0)) (0 ∷ 4 ∷ 5 ∷ []))
+    (1 ∷ 2 ∷ 3 ∷ 4 ∷ [])
+    ≡ (true ∷ true ∷ false ∷ []) ∷ (true ∷ true ∷ false ∷ []) ∷ (true ∷ true ∷ false ∷ []) ∷ (true ∷ true ∷ false ∷ []) ∷ []
 unfolding of-soundness
 sound-levels = refl
 
 -- "duty 600,000 to 30,000,000", in every profile
 sound-duties :
     map (λ (p : ℕ). map (λ (duty : ℕ). soundControl (control p 0 duty 0 0 0)) (599999 ∷ 600000 ∷ 30000000 ∷ 30000001 ∷ []))
-    (1 ∷ 2 ∷ 3 ∷ [])
-    ≡ (false ∷ true ∷ true ∷ false ∷ []) ∷ (false ∷ true ∷ true ∷ false ∷ []) ∷ (false ∷ true ∷ true ∷ false ∷ []) ∷ []
+    (1 ∷ 2 ∷ 3 ∷ 4 ∷ [])
+    ≡ (false ∷ true ∷ true ∷ false ∷ [])
+    ∷ (false ∷ true ∷ true ∷ false ∷ [])
+    ∷ (false ∷ true ∷ true ∷ false ∷ [])
+    ∷ (false ∷ true ∷ true ∷ false ∷ [])
+    ∷ []
 unfolding of-soundness
 sound-duties = refl
 
 -- "loads at most 1,000,000", in every profile
 sound-smoothed-loads :
     map (λ (p : ℕ). map (λ (load : ℕ). soundControl (control p 0 600000 load 0 0)) (1 ∷ 1000000 ∷ 1000001 ∷ []))
-    (1 ∷ 2 ∷ 3 ∷ [])
-    ≡ (true ∷ true ∷ false ∷ []) ∷ (true ∷ true ∷ false ∷ []) ∷ (true ∷ true ∷ false ∷ []) ∷ []
+    (1 ∷ 2 ∷ 3 ∷ 4 ∷ [])
+    ≡ (true ∷ true ∷ false ∷ []) ∷ (true ∷ true ∷ false ∷ []) ∷ (true ∷ true ∷ false ∷ []) ∷ (true ∷ true ∷ false ∷ []) ∷ []
 unfolding of-soundness
 sound-smoothed-loads = refl
 
@@ -72,13 +94,13 @@ sound-kept-loads = refl
 
 -- "a sample kept only in profile 3"
 sample-kept-only-in-profile-3 :
-    map (λ (p : ℕ). soundControl (control p 0 600000 0 0 1)) (1 ∷ 2 ∷ 3 ∷ []) ≡ false ∷ false ∷ true ∷ []
+    map (λ (p : ℕ). soundControl (control p 0 600000 0 0 1)) (1 ∷ 2 ∷ 3 ∷ 4 ∷ []) ≡ false ∷ false ∷ true ∷ false ∷ []
 unfolding of-soundness
 sample-kept-only-in-profile-3 = refl
 
 -- "everything unused is zero": "the kept sample when none is kept"
 nothing-in-an-unused-sample :
-    map (λ (p : ℕ). soundControl (control p 0 600000 0 1 0)) (1 ∷ 2 ∷ 3 ∷ []) ≡ false ∷ false ∷ false ∷ []
+    map (λ (p : ℕ). soundControl (control p 0 600000 0 1 0)) (1 ∷ 2 ∷ 3 ∷ 4 ∷ []) ≡ false ∷ false ∷ false ∷ false ∷ []
 unfolding of-soundness
 nothing-in-an-unused-sample = refl
 
@@ -87,11 +109,27 @@ one-is-kept-or-none : map (λ (n : ℕ). soundControl (control 3 0 600000 0 0 n)
 unfolding of-soundness
 one-is-kept-or-none = refl
 
--- odd, and sound by the letter: profiles 1 and 2 with a duty and a smoothed load, profile 3 with a level and a sample
+-- "loads at most 1,000,000", and the latest load "is kept in profile 4 alone and zero elsewhere"
+sound-latest-loads :
+    map (λ (p : ℕ). map (λ (load : ℕ). soundControl (whole p 0 600000 0 0 0 load)) (0 ∷ 1 ∷ 1000000 ∷ 1000001 ∷ []))
+    (1 ∷ 2 ∷ 3 ∷ 4 ∷ [])
+    ≡ (true ∷ false ∷ false ∷ false ∷ [])
+    ∷ (true ∷ false ∷ false ∷ false ∷ [])
+    ∷ (true ∷ false ∷ false ∷ false ∷ [])
+    ∷ (true ∷ true ∷ true ∷ false ∷ [])
+    ∷ []
+unfolding of-soundness
+sound-latest-loads = refl
+
+-- odd, and sound by the letter: profiles 1, 2 and 4 with a duty and a smoothed load, profiles 3 and 4 with a level
 odd-but-sound :
     map soundControl
-    (control 1 4 12345678 1000000 0 0 ∷ control 2 3 30000000 680000 0 0 ∷ control 3 4 12345678 1000000 1000000 1 ∷ [])
-    ≡ true ∷ true ∷ true ∷ []
+    (control 1 4 12345678 1000000 0 0
+    ∷ control 2 3 30000000 680000 0 0
+    ∷ control 3 4 12345678 1000000 1000000 1
+    ∷ whole 4 4 12345678 1000000 0 0 1000000
+    ∷ [])
+    ≡ true ∷ true ∷ true ∷ true ∷ []
 unfolding of-soundness
 odd-but-sound = refl
 
@@ -193,9 +231,38 @@ profile-3-never-changes-level :
 unfolding of-samples
 profile-3-never-changes-level level duty smoothed kept load = refl
 
+-- profile 4 notes the latest load, and changes nothing else: whatever the numbers (W-209)
+sample-of-profile-4 :
+    (level duty smoothed kept pairing latest load : ℕ)
+    → sampled (whole 4 level duty smoothed kept pairing latest) load ≡ whole 4 level duty smoothed kept pairing load
+unfolding of-samples
+sample-of-profile-4 level duty smoothed kept pairing latest load = refl
+
+-- "the latest load": the last of several, also where it is 0
+samples-of-profile-4 :
+    course (freshControl 4) (700000 ∷ 1000000 ∷ 0 ∷ 620001 ∷ [])
+    ≡ whole 4 0 600000 0 0 0 700000
+    ∷ whole 4 0 600000 0 0 0 1000000
+    ∷ whole 4 0 600000 0 0 0 0
+    ∷ whole 4 0 600000 0 0 0 620001
+    ∷ []
+unfolding course
+samples-of-profile-4 = refl
+
+-- no other profile touches it: whatever the numbers
+profiles-1-to-3-keep-no-latest-load :
+    (level duty smoothed kept load : ℕ)
+    → map
+    (λ (p : ℕ). map (λ (pairing : ℕ). sampled (control p level duty smoothed kept pairing) load .tuning .latest)
+    (0 ∷ 1 ∷ []))
+    (1 ∷ 2 ∷ 3 ∷ [])
+    ≡ (0 ∷ 0 ∷ []) ∷ (0 ∷ 0 ∷ []) ∷ (0 ∷ 0 ∷ []) ∷ []
+unfolding of-samples
+profiles-1-to-3-keep-no-latest-load level duty smoothed kept load = refl
+
 -- The wait, and how long it keeps the gate closed.
 unfoldable of-waits : Type 0
-unfolding within waitBy adaptiveWait startOf mostOntime waitOf quiet claimsCeiling
+unfolding within waitBy adaptiveWait perMille factorOf harmonisedWait startOf mostOntime waitOf quiet claimsCeiling
 of-waits = Unit {0}
 
 -- "The wait in profiles 1 and 2 is the current level's": whatever the duty and the on-time
@@ -238,6 +305,22 @@ waits-at-the-least-duty :
 unfolding of-waits
 waits-at-the-least-duty level = refl
 
+-- in profile 4 "For c at most 620 the wait is 25,000. Above that .. the wait is the factor times the last on-time, held within
+-- 25,000 to 1,000,000." (W-209): whatever the level, the duty and the smoothed load
+waits-of-profile-4 :
+    (level duty smoothed : ℕ)
+    → map (λ (load : ℕ). map (waitOf (whole 4 level duty smoothed 0 0 load)) (1 ∷ 54 ∷ 55 ∷ 1000 ∷ 4000 ∷ []))
+    (0 ∷ 620000 ∷ 620001 ∷ 621001 ∷ 700000 ∷ 1000000 ∷ [])
+    ≡ (25000 ∷ 25000 ∷ 25000 ∷ 25000 ∷ 25000 ∷ [])
+    ∷ (25000 ∷ 25000 ∷ 25000 ∷ 25000 ∷ 25000 ∷ [])
+    ∷ (25000 ∷ 25000 ∷ 25000 ∷ 25000 ∷ 25000 ∷ [])
+    ∷ (25000 ∷ 25000 ∷ 25000 ∷ 25000 ∷ 48000 ∷ [])
+    ∷ (25000 ∷ 25000 ∷ 25135 ∷ 457000 ∷ 1000000 ∷ [])
+    ∷ (25000 ∷ 82026 ∷ 83545 ∷ 1000000 ∷ 1000000 ∷ [])
+    ∷ []
+unfolding of-waits
+waits-of-profile-4 level duty smoothed = refl
+
 -- "In profiles 1 and 2 the wait now runs from admission plus that packet's on-time. Profile 3 stays as it is" (W-202)
 
 closed-in-profiles-1-and-2 :
@@ -256,19 +339,28 @@ closed-in-profile-3 :
 unfolding of-waits
 closed-in-profile-3 = refl
 
--- "its floor reads 1,001,000 µs for profile 1, 1,000,500 for profile 2 and 1,000,000 for profile 3" (W-202)
-quiet-times : map quiet (1 ∷ 2 ∷ 3 ∷ []) ≡ 1001000 ∷ 1000500 ∷ 1000000 ∷ []
+-- "It runs from the end of transmission." (W-209)
+closed-in-profile-4 :
+    map (closedAfter (whole 4 0 600000 0 0 0 0)) (1 ∷ 4000 ∷ [])
+    ++ map (closedAfter (whole 4 0 600000 0 0 0 700000)) (55 ∷ 1000 ∷ 4000 ∷ [])
+    ≡ 25001 ∷ 29000 ∷ 25190 ∷ 458000 ∷ 1004000 ∷ []
+unfolding of-waits
+closed-in-profile-4 = refl
+
+-- "its floor reads 1,001,000 µs for profile 1, 1,000,500 for profile 2 and 1,000,000 for profile 3" (W-202); "Its floor is
+-- 1,004,000 µs." (W-209)
+quiet-times : map quiet (1 ∷ 2 ∷ 3 ∷ 4 ∷ []) ≡ 1001000 ∷ 1000500 ∷ 1000000 ∷ 1004000 ∷ []
 unfolding of-waits
 quiet-times = refl
 
-floors-by-profile : (quiet 1 ≡ 1001000) × (quiet 2 ≡ 1000500) × (quiet 3 ≡ 1000000)
+floors-by-profile : (quiet 1 ≡ 1001000) × (quiet 2 ≡ 1000500) × (quiet 3 ≡ 1000000) × (quiet 4 ≡ 1004000)
 floors-by-profile = floors
 
 -- "100 x air time admitted ≤ 3 W + 400,000"; "gaps of at least 25,000 µs", "1,000,000 µs" (W-207)
 spare-gap-second : spare ∷ leastGap ∷ second ∷ [] ≡ 400000 ∷ 25000 ∷ 1000000 ∷ []
 spare-gap-second = refl
 
--- "Demand 3's ceiling is what holds": in every profile
+-- "Demand 3's ceiling stands" (W-202); "01's ceiling isn't claimed for it" (W-209): profile 4 may admit 4,000 µs every 29,000
 ceiling-claimed : map claimsCeiling (0 ∷ 1 ∷ 2 ∷ 3 ∷ 4 ∷ []) ≡ false ∷ true ∷ true ∷ true ∷ false ∷ []
 unfolding of-waits
 ceiling-claimed = refl

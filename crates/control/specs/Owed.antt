@@ -26,15 +26,17 @@ unfoldable pub quiet : (profile : ℕ) → ℕ
 quiet profile = startOf profile (mostOntime profile) + limitsOf profile .mostwait
 
 -- "its floor reads 1,001,000 µs for profile 1, 1,000,500 for profile 2 and 1,000,000 for profile 3" (document
--- 02, W-202)
+-- 02, W-202); of profile 4 "Its floor is 1,004,000 µs." (W-209)
 abbrev pub Floors : Type 0
-Floors = (quiet 1 ≡ 1001000) × (quiet 2 ≡ 1000500) × (quiet 3 ≡ 1000000)
+Floors = (quiet 1 ≡ 1001000) × (quiet 2 ≡ 1000500) × (quiet 3 ≡ 1000000) × (quiet 4 ≡ 1004000)
 
--- the profiles of which "Demand 3's ceiling" is claimed
+-- the profiles of which "Demand 3's ceiling" is claimed; of profile 4, "01's ceiling isn't claimed for it"
+-- (document 02, W-209)
 unfoldable pub claimsCeiling : (profile : ℕ) → Bool
 claimsCeiling profile = within 1 3 profile
 
--- what every profile owes
+-- "State what all four profiles have in common once." (document 02, W-209): every profile owes this, whatever
+-- its rule
 pub record Keeps (k : Control) (ontime : ℕ) : Type 0 where
   -- the floor: no wait ends after the quiet time
   pub longest : closedAfter k ontime ≤ quiet (k .profile)
@@ -54,7 +56,7 @@ pub record KeepsCeiling (k : Control) (ontime : ℕ) : Type 0 where
 abbrev pub Allowed : Control → (ontime : ℕ) → Type 0
 Allowed k ontime = (soundControl k ≡ true) × (ontimeAllowed (k .profile) ontime ≡ true)
 
--- what every profile owes
+-- all four profiles owe what they have in common
 abbrev pub AllKeep : Type 0
 AllKeep = (k : Control) (ontime : ℕ) → Allowed k ontime → Keeps k ontime
 

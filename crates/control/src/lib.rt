@@ -4,11 +4,12 @@ ghost use mathlib.Core.Path.{_≡_};
 ghost use mathlib.Core.Bool.{true};
 ghost use Prim.Native.Nat.{_≤_};
 ghost use Rattle.rules.specs.Profiles.{profile3, fullLoad};
-ghost use Rattle.control.specs.Control.{controlOf, freshTuning, noTuning, pairingSound, soundControl};
+ghost use Rattle.control.specs.Control.{controlOf, freshTuning, noTuning, latestSound, soundControl};
 ghost use Rattle.control.specs.Control.{sampled};
 ghost use Rattle.control.specs.Wait.{waitOf, closedAfter};
 
-// What samples change. `pairing` is 1 while a sample is kept, else 0.
+// What samples change. `pairing` is 1 while a sample is kept, else 0; `latest` is the latest load in profile
+// 4, else 0.
 #[repr(C)]
 pub struct Tuning {
     pub level: u32,
@@ -16,6 +17,7 @@ pub struct Tuning {
     pub smoothed: u32,
     pub kept: u32,
     pub pairing: u32,
+    pub latest: u32,
 }
 
 // What a gate starts with.
@@ -28,6 +30,7 @@ pub fn fresh() -> Tuning
         smoothed: 0,
         kept: 0,
         pairing: 0,
+        latest: 0,
     }
 }
 
@@ -41,7 +44,18 @@ pub fn none() -> Tuning
         smoothed: 0,
         kept: 0,
         pairing: 0,
+        latest: 0,
     }
+}
+
+// Whether a latest load is one that a profile keeps.
+fn is_latest_sound(profile: u32, latest: u32) -> bool
+    ensures { λ r. ⌜ r ≡ latestSound profile latest ⌝ }
+{
+    if profile == rules::HARMONISED {
+        return latest <= rules::FULL_LOAD;
+    }
+    latest == 0
 }
 
 // Whether what samples steer is within its limits.
@@ -67,6 +81,9 @@ pub fn is_sound(profile: u32, t: Tuning) -> bool
     if rules::FULL_LOAD < t.kept {
         return false;
     }
+    if !is_latest_sound(profile, t.latest) {
+        return false;
+    }
     let pairing = t.pairing;
     match pairing {
         0 => t.kept == 0,
@@ -86,6 +103,10 @@ pub fn tuning_after(profile: u32, t: Tuning, load: u32) -> Tuning
         let table = rules::reactive_of(profile);
         let wanted = table.wanted(load);
         next.level = rules::level_step(t.level, wanted);
+        return next;
+    }
+    if profile == rules::HARMONISED {
+        next.latest = load;
         return next;
     }
     if t.pairing == 1 {
@@ -110,7 +131,8 @@ pub fn wait(profile: u32, t: Tuning, ontime: u32) -> u32
     match profile {
         1 => rules::Profile1::constants().wait(t.level),
         2 => rules::Profile2::constants().wait(t.level),
-        _ => rules::adaptive_wait(ontime, t.duty),
+        3 => rules::adaptive_wait(ontime, t.duty),
+        _ => rules::harmonised_wait(ontime, t.latest),
     }
 }
 

@@ -1,5 +1,5 @@
--- Worked examples of what document 01 says of the four calls from a C stack. Each side computes to the other, so a definition
--- that reads a sentence otherwise fails here.
+-- Worked examples of what documents 01 and 02 say of the four calls from a C stack. Each side computes to the other, so a
+-- definition that reads a sentence otherwise fails here.
 use Prim.Native.Nat.{ℕ}
 use mathlib.Core.Path.{_≡_, refl}
 use mathlib.Core.List.{List, [], _∷_, _++_, map}
@@ -8,6 +8,7 @@ use Rattle.rules.specs.Refusals.{Check, firstOf}
 use Rattle.rules.specs.Levels.{wantedBy, towards, waitBy}
 use Rattle.rules.specs.Duty.{smoothedOf, offsetOf, dutyOf}
 use Rattle.rules.specs.Wait.{adaptiveWait}
+use Rattle.rules.specs.Harmonised.{perMille, factorOf, harmonisedWait}
 use Rattle.control.specs.Wait.{waitOf}
 use Rattle.cstack.specs.declared.LevelAnswer.{LevelAnswer}
 use Rattle.cstack.specs.declared.DutyAnswer.{DutyAnswer}
@@ -32,7 +33,7 @@ order-of-duty-update : (a : UpdateArguments) → numbers (updateChecks a) ≡ 9 
 unfolding numbers
 order-of-duty-update a = refl
 
-order-of-wait : (a : WaitArguments) → numbers (waitChecks a) ≡ 1 ∷ 9 ∷ 9 ∷ 6 ∷ []
+order-of-wait : (a : WaitArguments) → numbers (waitChecks a) ≡ 1 ∷ 9 ∷ 9 ∷ 4 ∷ 6 ∷ []
 unfolding numbers
 order-of-wait a = refl
 
@@ -122,11 +123,13 @@ update-loads :
 unfolding update
 update-loads = refl
 
--- "the wait takes profile, level, duty and last on-time, all judged, used or not"
+-- "the wait takes profile, level, duty and last on-time, all judged, used or not"; "the C wait takes the latest load as its last
+-- number" (W-209)
 
-wait : (profile level duty ontime : ℕ) → WaitAnswer
-unfolding within mostOntime ontimeAllowed firstOf waitBy adaptiveWait waitOf waitAnswer
-wait profile level duty ontime = waitAnswer (record { profile = profile; level = level; duty = duty; ontime = ontime })
+wait : (profile level duty ontime load : ℕ) → WaitAnswer
+unfolding within mostOntime ontimeAllowed firstOf waitBy adaptiveWait perMille factorOf harmonisedWait waitOf waitAnswer
+wait profile level duty ontime load =
+    waitAnswer (record { profile = profile; level = level; duty = duty; ontime = ontime; load = load })
 
 abbrev waits : ℕ → WaitAnswer
 waits n = record { refusal = 0; wait = n }
@@ -134,45 +137,68 @@ waits n = record { refusal = 0; wait = n }
 abbrev noWait : ℕ → WaitAnswer
 noWait n = record { refusal = n; wait = 0 }
 
+-- "in the C wait a profile outside 1 to 4 now gets number 1" (W-209)
 wait-profiles :
-    map (λ (p : ℕ). wait p 0 600000 400) (0 ∷ 1 ∷ 2 ∷ 3 ∷ 4 ∷ [])
-    ≡ noWait 1 ∷ waits 100000 ∷ waits 50000 ∷ waits 666667 ∷ noWait 1 ∷ []
+    map (λ (p : ℕ). wait p 0 600000 400 700000) (0 ∷ 1 ∷ 2 ∷ 3 ∷ 4 ∷ 5 ∷ [])
+    ≡ noWait 1 ∷ waits 100000 ∷ waits 50000 ∷ waits 666667 ∷ waits 182800 ∷ noWait 1 ∷ []
 unfolding wait
 wait-profiles = refl
 
 wait-levels :
-    map (λ (p : ℕ). map (λ (n : ℕ). wait p n 30000000 400) (0 ∷ 1 ∷ 2 ∷ 3 ∷ 4 ∷ 5 ∷ [])) (1 ∷ 2 ∷ 3 ∷ [])
+    map (λ (p : ℕ). map (λ (n : ℕ). wait p n 30000000 400 0) (0 ∷ 1 ∷ 2 ∷ 3 ∷ 4 ∷ 5 ∷ [])) (1 ∷ 2 ∷ 3 ∷ 4 ∷ [])
     ≡ (waits 100000 ∷ waits 200000 ∷ waits 400000 ∷ waits 500000 ∷ waits 1000000 ∷ noWait 9 ∷ [])
     ∷ (waits 50000 ∷ waits 100000 ∷ waits 200000 ∷ waits 250000 ∷ waits 1000000 ∷ noWait 9 ∷ [])
+    ∷ (waits 25000 ∷ waits 25000 ∷ waits 25000 ∷ waits 25000 ∷ waits 25000 ∷ noWait 9 ∷ [])
     ∷ (waits 25000 ∷ waits 25000 ∷ waits 25000 ∷ waits 25000 ∷ waits 25000 ∷ noWait 9 ∷ [])
     ∷ []
 unfolding wait
 wait-levels = refl
 
 wait-duties :
-    map (λ (p : ℕ). map (λ (duty : ℕ). wait p 1 duty 500) (599999 ∷ 600000 ∷ 30000000 ∷ 30000001 ∷ [])) (1 ∷ 2 ∷ 3 ∷ [])
+    map (λ (p : ℕ). map (λ (duty : ℕ). wait p 1 duty 500 700000) (599999 ∷ 600000 ∷ 30000000 ∷ 30000001 ∷ []))
+    (1 ∷ 2 ∷ 3 ∷ 4 ∷ [])
     ≡ (noWait 9 ∷ waits 200000 ∷ waits 200000 ∷ noWait 9 ∷ [])
     ∷ (noWait 9 ∷ waits 100000 ∷ waits 100000 ∷ noWait 9 ∷ [])
     ∷ (noWait 9 ∷ waits 833334 ∷ waits 25000 ∷ noWait 9 ∷ [])
+    ∷ (noWait 9 ∷ waits 228500 ∷ waits 228500 ∷ noWait 9 ∷ [])
     ∷ []
 unfolding wait
 wait-duties = refl
 
+-- "4 load", in every profile
+wait-loads :
+    map (λ (p : ℕ). map (wait p 0 30000000 400) (0 ∷ 620000 ∷ 620001 ∷ 700000 ∷ 1000000 ∷ 1000001 ∷ [])) (1 ∷ 2 ∷ 3 ∷ 4 ∷ [])
+    ≡ (waits 100000 ∷ waits 100000 ∷ waits 100000 ∷ waits 100000 ∷ waits 100000 ∷ noWait 4 ∷ [])
+    ∷ (waits 50000 ∷ waits 50000 ∷ waits 50000 ∷ waits 50000 ∷ waits 50000 ∷ noWait 4 ∷ [])
+    ∷ (waits 25000 ∷ waits 25000 ∷ waits 25000 ∷ waits 25000 ∷ waits 25000 ∷ noWait 4 ∷ [])
+    ∷ (waits 25000 ∷ waits 25000 ∷ waits 25000 ∷ waits 182800 ∷ waits 607600 ∷ noWait 4 ∷ [])
+    ∷ []
+unfolding wait
+wait-loads = refl
+
 -- "6 on-time": by the profile; a last on-time of 0 is not allowed
 wait-on-times :
-    map (wait 1 3 30000000) (0 ∷ 1 ∷ 1000 ∷ 1001 ∷ [])
-    ++ map (wait 2 3 30000000) (0 ∷ 1 ∷ 500 ∷ 501 ∷ [])
-    ++ map (wait 3 3 30000000) (0 ∷ 1 ∷ 4000 ∷ 4001 ∷ [])
+    map (λ (ontime : ℕ). wait 1 3 30000000 ontime 0) (0 ∷ 1 ∷ 1000 ∷ 1001 ∷ [])
+    ++ map (λ (ontime : ℕ). wait 2 3 30000000 ontime 0) (0 ∷ 1 ∷ 500 ∷ 501 ∷ [])
+    ++ map (λ (ontime : ℕ). wait 3 3 30000000 ontime 0) (0 ∷ 1 ∷ 4000 ∷ 4001 ∷ [])
+    ++ map (λ (ontime : ℕ). wait 4 3 30000000 ontime 700000) (0 ∷ 1 ∷ 4000 ∷ 4001 ∷ [])
     ≡ noWait 6 ∷ waits 500000 ∷ waits 500000 ∷ noWait 6
     ∷ noWait 6 ∷ waits 250000 ∷ waits 250000 ∷ noWait 6
     ∷ noWait 6 ∷ waits 25000 ∷ waits 133334 ∷ noWait 6
+    ∷ noWait 6 ∷ waits 25000 ∷ waits 1000000 ∷ noWait 6
     ∷ []
 unfolding wait
 wait-on-times = refl
 
 -- where several are bad
 first-of-a-wait :
-    wait 0 5 0 0 ∷ wait 1 5 600000 0 ∷ wait 1 0 0 0 ∷ wait 1 0 600000 0 ∷ []
-    ≡ noWait 1 ∷ noWait 9 ∷ noWait 9 ∷ noWait 6 ∷ []
+    wait 0 5 0 0 1000001
+    ∷ wait 1 5 600000 0 1000001
+    ∷ wait 1 0 0 0 1000001
+    ∷ wait 1 0 600000 0 1000001
+    ∷ wait 4 0 600000 0 1000001
+    ∷ wait 1 0 600000 0 0
+    ∷ []
+    ≡ noWait 1 ∷ noWait 9 ∷ noWait 9 ∷ noWait 4 ∷ noWait 4 ∷ noWait 6 ∷ []
 unfolding wait
 first-of-a-wait = refl

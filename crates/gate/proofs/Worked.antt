@@ -134,12 +134,12 @@ bound profile =
       clock = record { time = 900000; stamp = 0 };
       last = record { at = 725000; ontime = 1000; admitted = 1 };
       counts = record { accepted = 1; sent = 0; expired = 0; displaced = 0 };
-      tuning = record { level = 0; duty = 30000000; smoothed = 0; kept = 0; pairing = 0 };
+      tuning = record { level = 0; duty = 30000000; smoothed = 0; kept = 0; pairing = 0; latest = 0 };
       profile = profile;
       oldway = 0;
     })
 
 binds-in-every-profile :
-    map (λ (p : ℕ). callOn (bound p) (poll 0) .answer) (1 ∷ 3 ∷ []) ≡ Closed 100000 ∷ Closed 100000 ∷ []
+    map (λ (p : ℕ). callOn (bound p) (poll 0) .answer) (1 ∷ 3 ∷ 4 ∷ []) ≡ Closed 100000 ∷ Closed 100000 ∷ Closed 100000 ∷ []
 unfolding of-states bound thirty lasting empty
 binds-in-every-profile = refl

@@ -6,7 +6,8 @@ use Rattle.rules.specs.Samples.{goodProbes, probe, busyOf, noStray, goodWords, 
 use Rattle.rules.specs.Levels.{wantedBy, towards, waitBy}
 use Rattle.rules.specs.Duty.{smoothedOf, offsetOf, dutyOf}
 use Rattle.rules.specs.Wait.{adaptiveWait, startOf}
-use Rattle.control.specs.Control.{pairingSound, soundControl, sampled}
+use Rattle.rules.specs.Harmonised.{perMille, factorOf, harmonisedWait}
+use Rattle.control.specs.Control.{pairingSound, latestSound, soundControl, sampled}
 use Rattle.control.specs.Wait.{waitOf}
 use Rattle.control.specs.Owed.{quiet}
 use Rattle.model.specs.Packets.{withoutExpired, inOrder}
@@ -27,11 +28,11 @@ unfolding of-numbers goodProbes probe busyOf noStray goodWords badCount loadOf w
 of-samples = Unit {0}
 
 unfoldable pub of-waits : Type 0
-unfolding of-numbers waitBy adaptiveWait startOf waitOf quiet
+unfolding of-numbers waitBy adaptiveWait perMille factorOf harmonisedWait startOf waitOf quiet
 of-waits = Unit {0}
 
 unfoldable pub of-soundness : Type 0
-unfolding of-numbers pairingSound soundControl inOrder queueSound spacedOut newestIs airOf sound
+unfolding of-numbers pairingSound latestSound soundControl inOrder queueSound spacedOut newestIs airOf sound
 of-soundness = Unit {0}
 
 unfoldable pub of-calls : Type 0

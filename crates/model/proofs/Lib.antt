@@ -33,3 +33,4 @@ pub mod WorkedSecond
 pub mod SampleLog
 pub mod DeliveryExample
 pub mod Stated
+pub mod Tabled

@@ -11,11 +11,11 @@ use lib.ListN.{length}
 use borrow.Author.Tests.{not-false, eqb-true, le-leb, lt-leb}
 use Rattle.rules.specs.Profiles.{isProfile}
 use Rattle.rules.specs.Refusals.{firstOf, FirstHolds}
-use Rattle.rules.proofs.Cases.{on-cond, clash}
+use Rattle.rules.proofs.Cases.{on-cond, clash, within-true, true-within}
 use Rattle.rules.proofs.Refusals.{of-none}
 use Rattle.rules.proofs.Tests.{tested}
-use Rattle.control.specs.Owed.{quiet}
-use Rattle.control.proofs.Owed.{floors, all-claim}
+use Rattle.control.specs.Owed.{quiet, claimsCeiling}
+use Rattle.control.proofs.Owed.{floors}
 use Rattle.model.specs.declared.Packet.{Packet}
 use Rattle.model.specs.declared.Counts.{Counts}
 use Rattle.model.specs.declared.Offer.{Offer}
@@ -93,6 +93,11 @@ ready-profile m =
     (λ e r. not-false _ (of-none (makeChecks m) (omega tested) (eqb-true _ _ e) .0))
     (λ e r. clash (cc))
 
+-- the first three profiles claim the ceiling
+claimed : (profile : ℕ) → isProfile profile ≡ true → profile ≤ 3 → claimsCeiling profile ≡ true
+unfolding claimsCeiling
+claimed profile e h = true-within 1 3 profile (within-true _ _ profile e .0) h
+
 -- "a make that isn't refused, then any list of samples (by words or count), offers and polls"
 module _ (m : Making) (calls : List Call) (ready : make m .answer ≡ Ready) where
   abbrev v : View
@@ -153,9 +158,10 @@ module _ (m : Making) (calls : List Call) (ready : make m .answer ≡ Ready) whe
       + (length (v .waiting .c0) + length (v .waiting .c1) + length (v .waiting .c2) + length (v .waiting .c3))
   adds-up = claims .adds-up
 
-  -- "in any window of W µs, 100 x air time admitted ≤ 3 W + 400,000", in each profile
-  ceiling : (from w : ℕ) → 100 * airTime from w (j .admissions) ≤ 3 * w + 400000
-  ceiling = claims .ceiling (all-claim (m .profile) (ready-profile m ready))
+  -- "in any window of W µs, 100 x air time admitted ≤ 3 W + 400,000", in profiles 1 to 3; "01's ceiling isn't claimed for"
+  -- profile 4 (W-209)
+  ceiling : m .profile ≤ 3 → (from w : ℕ) → 100 * airTime from w (j .admissions) ≤ 3 * w + 400000
+  ceiling h = claims .ceiling (claimed (m .profile) (ready-profile m ready) h)
 
   -- "Over any run from a fresh state, on-times admitted in any half-open stretch of 1,000,000 µs sum to at most 30,000." (W-207)
   any-second : (from : ℕ) → airIn from (from + 1000000) (j .admissions) ≤ 30000
@@ -191,7 +197,8 @@ module _ (m : Making) (calls : List Call) (ready : make m .answer ≡ Ready) whe
   floor-by µs e stamp accepted some late =
       claims .floor stamp accepted (λ n. some (no-top _ _ _ _ n)) (rw e late)
 
-  -- "its floor reads 1,001,000 µs for profile 1, 1,000,500 for profile 2 and 1,000,000 for profile 3" (W-202)
+  -- "its floor reads 1,001,000 µs for profile 1, 1,000,500 for profile 2 and 1,000,000 for profile 3" (W-202); of profile 4 "Its
+  -- floor is 1,004,000 µs." (W-209)
   floor-of-1 : m .profile ≡ 1 → Floor 1001000
   floor-of-1 e = floor-by 1001000 (ap quiet e ∙ floors .0)
 
@@ -200,6 +207,9 @@ module _ (m : Making) (calls : List Call) (ready : make m .answer ≡ Ready) whe
 
   floor-of-3 : m .profile ≡ 3 → Floor 1000000
   floor-of-3 e = floor-by 1000000 (ap quiet e ∙ floors .2)
+
+  floor-of-4 : m .profile ≡ 4 → Floor 1004000
+  floor-of-4 e = floor-by 1004000 (ap quiet e ∙ floors .3)
 
   -- "SENT never comes with all columns empty, and carries the packet struck"
   carried : (stamp : ℕ) (p : Packet) → call v (poll stamp) .answer ≡ Sent p

@@ -39,11 +39,22 @@ abbrev pub withDisplaced : (displaced : ℕ) → Counts → Counts
 withDisplaced displaced c =
     record { accepted = c .accepted; sent = c .sent; expired = c .expired; displaced = displaced }
 
+-- without a latest load
 abbrev pub steered : (profile level duty smoothed kept pairing : ℕ) → Control
 steered profile level duty smoothed kept pairing =
     record {
       profile = profile;
-      tuning = record { level = level; duty = duty; smoothed = smoothed; kept = kept; pairing = pairing };
+      tuning =
+          record { level = level; duty = duty; smoothed = smoothed; kept = kept; pairing = pairing; latest = 0 };
+    }
+
+-- with one, and no sample kept
+abbrev pub lately : (profile level duty smoothed latest : ℕ) → Control
+lately profile level duty smoothed latest =
+    record {
+      profile = profile;
+      tuning =
+          record { level = level; duty = duty; smoothed = smoothed; kept = 0; pairing = 0; latest = latest };
     }
 
 abbrev pub packet : (id priority ontime lifetime arrival : ℕ) → Packet
@@ -170,10 +181,10 @@ timed : (time : ℕ) → View
 unfolding made
 timed time = withClock (made 1) (clockAt time 0)
 
--- 1 "make: profile not 1 to 3"
+-- 1 "At making .. a profile outside 1 to 4 now gets number 1" (W-209)
 profiles :
-    map (λ (n : ℕ). make (making n 5) .answer) (0 ∷ 1 ∷ 2 ∷ 3 ∷ 4 ∷ [])
-    ≡ Refused 1 ∷ Ready ∷ Ready ∷ Ready ∷ Refused 1 ∷ []
+    map (λ (n : ℕ). make (making n 5) .answer) (0 ∷ 1 ∷ 2 ∷ 3 ∷ 4 ∷ 5 ∷ [])
+    ≡ Refused 1 ∷ Ready ∷ Ready ∷ Ready ∷ Ready ∷ Refused 1 ∷ []
 unfolding of-runs
 profiles = refl
 
@@ -182,8 +193,8 @@ ways :
     map
     (λ (profile : ℕ). map (λ (n : ℕ). make (record { profile = profile; oldway = n; stamp = 5 }) .answer)
     (0 ∷ 1 ∷ 2 ∷ 4294967295 ∷ []))
-    (1 ∷ 2 ∷ 3 ∷ [])
-    ≡ map (λ (profile : ℕ). Ready ∷ Ready ∷ Refused 1 ∷ Refused 1 ∷ []) (1 ∷ 2 ∷ 3 ∷ [])
+    (1 ∷ 2 ∷ 3 ∷ 4 ∷ [])
+    ≡ map (λ (profile : ℕ). Ready ∷ Ready ∷ Refused 1 ∷ Refused 1 ∷ []) (1 ∷ 2 ∷ 3 ∷ 4 ∷ [])
 unfolding of-runs
 ways = refl
 
@@ -256,15 +267,15 @@ priorities : eachOf (made 1) (map (λ (n : ℕ). offering 0 7 n 1 1) (0 ∷ 3 �
 unfolding eachOf made
 priorities = refl
 
--- 6 "on-time not allowed by the profile": "1 to 1,000", "1 to 500", "1 to 4,000"
+-- 6 "on-time not allowed by the profile": "1 to 1,000", "1 to 500", "1 to 4,000", and "on-time 1 to 4,000" in profile 4 (W-209)
 ontimesOf : (profile most : ℕ) → List Answer
 unfolding eachOf made
 ontimesOf profile most =
     eachOf (made profile) (map (λ (n : ℕ). offering 0 7 0 n 1) (0 ∷ 1 ∷ most ∷ (most + 1) ∷ []))
 
 ontimes :
-    ontimesOf 1 1000 ∷ ontimesOf 2 500 ∷ ontimesOf 3 4000 ∷ []
-    ≡ map (λ (n : ℕ). Refused 6 ∷ Taken ∷ Taken ∷ Refused 6 ∷ []) (1 ∷ 2 ∷ 3 ∷ [])
+    ontimesOf 1 1000 ∷ ontimesOf 2 500 ∷ ontimesOf 3 4000 ∷ ontimesOf 4 4000 ∷ []
+    ≡ map (λ (n : ℕ). Refused 6 ∷ Taken ∷ Taken ∷ Refused 6 ∷ []) (1 ∷ 2 ∷ 3 ∷ 4 ∷ [])
 unfolding ontimesOf
 ontimes = refl
 
@@ -691,3 +702,82 @@ by-probes :
     ≡ 620080 ∷ 333333 ∷ 333333 ∷ []
 unfolding made
 by-probes = refl
+
+-- Profile 4 (W-209): "let c be the latest load in per mille, rounded up (0 before any sample)"; 4,000 µs go at 10, and the wait
+-- "runs from the end of transmission". Calm, 700 per mille (held at 1,000,000), 620 per mille, 620,080 parts per million (621 per
+-- mille: 6 x 4,000 is held at 25,000), each as the latest load at the next poll
+harmonised-run :
+    answersOf (made 4)
+    (offering 0 1 0 4000 60000000
+    ∷ offering 0 2 0 4000 60000000
+    ∷ poll 10
+    ∷ poll 10
+    ∷ count 20 700 1000
+    ∷ poll 1010
+    ∷ count 1020 620 1000
+    ∷ poll 1030
+    ∷ count 1040 7751 12500
+    ∷ poll 29009
+    ∷ poll 29010
+    ∷ [])
+    ≡ Taken
+    ∷ Taken
+    ∷ Sent (packet 1 0 4000 60000000 0)
+    ∷ Closed 29000
+    ∷ Taken
+    ∷ Closed 1003000
+    ∷ Taken
+    ∷ Closed 27980
+    ∷ Taken
+    ∷ Closed 1
+    ∷ Sent (packet 2 0 4000 60000000 0)
+    ∷ []
+unfolding answersOf made
+harmonised-run = refl
+
+-- the sample changes the latest load alone, which is parts per million, rounded down
+harmonised-sample :
+    map (λ (c : Call). call (made 4) c .view .control) (count 9 7751 12500 ∷ words 9 3 (4 ∷ []) ∷ count 9 0 1 ∷ [])
+    ≡ lately 4 0 600000 0 620080 ∷ lately 4 0 600000 0 333333 ∷ lately 4 0 600000 0 0 ∷ []
+unfolding of-runs made
+harmonised-sample = refl
+
+-- "W-207's 30,000 is" claimed of profile 4: in a calm channel the eighth packet of 4,000 µs waits for the first to age
+harmonised-second :
+    answersOf (made 4)
+    (offering 0 1 0 4000 60000000
+    ∷ offering 0 2 0 4000 60000000
+    ∷ offering 0 3 0 4000 60000000
+    ∷ offering 0 4 0 4000 60000000
+    ∷ offering 0 5 1 4000 60000000
+    ∷ offering 0 6 1 4000 60000000
+    ∷ offering 0 7 1 4000 60000000
+    ∷ offering 0 8 1 4000 60000000
+    ∷ poll 0
+    ∷ poll 29000
+    ∷ poll 58000
+    ∷ poll 87000
+    ∷ poll 116000
+    ∷ poll 145000
+    ∷ poll 174000
+    ∷ poll 203000
+    ∷ [])
+    ≡ Taken
+    ∷ Taken
+    ∷ Taken
+    ∷ Taken
+    ∷ Taken
+    ∷ Taken
+    ∷ Taken
+    ∷ Taken
+    ∷ Sent (packet 1 0 4000 60000000 0)
+    ∷ Sent (packet 2 0 4000 60000000 0)
+    ∷ Sent (packet 3 0 4000 60000000 0)
+    ∷ Sent (packet 4 0 4000 60000000 0)
+    ∷ Sent (packet 5 1 4000 60000000 0)
+    ∷ Sent (packet 6 1 4000 60000000 0)
+    ∷ Sent (packet 7 1 4000 60000000 0)
+    ∷ Closed 797000
+    ∷ []
+unfolding answersOf made
+harmonised-second = refl

@@ -16,8 +16,8 @@ use Rattle.model.specs.State.{View, withClock, withControl, withLast, wi
 use Rattle.model.specs.Effects.{result}
 use Rattle.model.specs.Gate.{make, call}
 use Rattle.model.proofs.Computing.{of-runs}
-use Rattle.model.proofs.Worked.{clockAt, lastAt, counted, withDisplaced, steered, packet, queues, state, withWay, upToDate}
-use Rattle.model.proofs.Worked.{making, makingOld, offering, crowded}
+use Rattle.model.proofs.Worked.{clockAt, lastAt, counted, withDisplaced, steered, lately, packet, queues, state}
+use Rattle.model.proofs.Worked.{withWay, upToDate, making, makingOld, offering, crowded}
 
 -- "A fresh state: live, last stamp as given to make, running time 0, level 0, duty 600,000, smoothed load 0, no sample kept,
 -- nothing admitted, queues empty.", and nothing counted (W-201)
@@ -25,14 +25,15 @@ abbrev freshState : (profile : ℕ) → View
 freshState n = state (clockAt 0 4294967295) (steered n 0 600000 0 0 0) (lastAt 0 0 0) (counted 0 0 0) (queues [] [] [] [])
 
 fresh-states :
-    map (λ (n : ℕ). make (making n 4294967295)) (1 ∷ 2 ∷ 3 ∷ []) ≡ map (λ (n : ℕ). result (freshState n) Ready) (1 ∷ 2 ∷ 3 ∷ [])
+    map (λ (n : ℕ). make (making n 4294967295)) (1 ∷ 2 ∷ 3 ∷ 4 ∷ [])
+    ≡ map (λ (n : ℕ). result (freshState n) Ready) (1 ∷ 2 ∷ 3 ∷ 4 ∷ [])
 unfolding of-runs
 fresh-states = refl
 
 -- "a yes-or-no fixed at making and held in the state" (W-205)
 fresh-in-the-old-way :
-    map (λ (n : ℕ). make (makingOld n 4294967295)) (1 ∷ 2 ∷ 3 ∷ [])
-    ≡ map (λ (n : ℕ). result (withWay 1 (freshState n)) Ready) (1 ∷ 2 ∷ 3 ∷ [])
+    map (λ (n : ℕ). make (makingOld n 4294967295)) (1 ∷ 2 ∷ 3 ∷ 4 ∷ [])
+    ≡ map (λ (n : ℕ). result (withWay 1 (freshState n)) Ready) (1 ∷ 2 ∷ 3 ∷ 4 ∷ [])
 unfolding of-runs
 fresh-in-the-old-way = refl
 
@@ -51,7 +52,7 @@ allZero =
     }
 
 not-live :
-    map make (making 0 5 ∷ making 4 5 ∷ makingOld 0 5 ∷ record { profile = 1; oldway = 2; stamp = 5 } ∷ [])
+    map make (making 0 5 ∷ making 5 5 ∷ makingOld 0 5 ∷ record { profile = 1; oldway = 2; stamp = 5 } ∷ [])
     ≡ map (λ (n : ℕ). result allZero (Refused n)) (1 ∷ 1 ∷ 1 ∷ 1 ∷ [])
 unfolding of-runs
 not-live = refl
@@ -106,7 +107,7 @@ ofQueue : List Packet → Bool
 unfolding isSound
 ofQueue ps = isSound (withCounts (withWaiting good (queues [] ps [] [])) (counted (length ps) 0 0))
 
--- "A state is sound if: live; profile 1 to 3; level at most 4;"
+-- "A state is sound if: live; profile 1 to 3; level at most 4;"; "a sound state may have profile 4" (W-209)
 sound-live : map ofLive (0 ∷ 1 ∷ 2 ∷ []) ≡ false ∷ true ∷ false ∷ []
 unfolding ofLive
 sound-live = refl
@@ -116,7 +117,7 @@ sound-way : map (λ (n : ℕ). isSound (withWay n good)) (0 ∷ 1 ∷ 2 ∷ []) 
 unfolding isSound
 sound-way = refl
 
-sound-profile : map (λ (n : ℕ). ofControl (steered n 2 700000 5 0 0)) (0 ∷ 3 ∷ 4 ∷ []) ≡ false ∷ true ∷ false ∷ []
+sound-profile : map (λ (n : ℕ). ofControl (steered n 2 700000 5 0 0)) (0 ∷ 3 ∷ 4 ∷ 5 ∷ []) ≡ false ∷ true ∷ true ∷ false ∷ []
 unfolding ofControl
 sound-profile = refl
 
@@ -149,9 +150,17 @@ unfolding ofControl
 none-kept = refl
 
 kept-only-in-3 :
-    map (λ (n : ℕ). isSound (withControl crowded (steered n 0 600000 0 0 1))) (1 ∷ 2 ∷ 3 ∷ []) ≡ false ∷ false ∷ true ∷ []
+    map (λ (n : ℕ). isSound (withControl crowded (steered n 0 600000 0 0 1))) (1 ∷ 2 ∷ 3 ∷ 4 ∷ [])
+    ≡ false ∷ false ∷ true ∷ false ∷ []
 unfolding isSound
 kept-only-in-3 = refl
+
+-- the latest load "is kept in profile 4 alone and zero elsewhere" (W-209)
+latest-only-in-4 :
+    map (λ (n : ℕ). map (λ (load : ℕ). ofControl (lately n 0 600000 0 load)) (0 ∷ 1 ∷ 1000000 ∷ 1000001 ∷ [])) (3 ∷ 4 ∷ [])
+    ≡ (true ∷ false ∷ false ∷ false ∷ []) ∷ (true ∷ true ∷ true ∷ false ∷ []) ∷ []
+unfolding ofControl
+latest-only-in-4 = refl
 
 -- "running time at most 10^15;"
 sound-time : map ofTime (1000000000000000 ∷ 1000000000000001 ∷ []) ≡ true ∷ false ∷ []

@@ -65,7 +65,8 @@ Apart [] = Unit {0}
 Apart (a ∷ []) = Unit {0}
 Apart (b ∷ a ∷ l) = (a .at + leastGap ≤ b .at) × Apart (a ∷ l)
 
--- at the end of a run of a profile, where one more poll may come
+-- at the end of a run of a profile, where one more poll may come: all of it of all four profiles, but the
+-- ceiling, which is claimed of those that owe it (control/specs/Owed: Keeps, KeepsCeiling)
 pub record Claims (profile : ℕ) (v : View) (j : Journal) : Type 0 where
   -- no call of a run meets NO-STATE
   pub sound-throughout : sound v ≡ true
@@ -85,7 +86,8 @@ pub record Claims (profile : ℕ) (v : View) (j : Journal) : Type 0 where
   -- "accepted equals sent plus expired plus the packets waiting"; "a fourth count, displaced" (W-205)
   pub adds-up :
       v .counts .accepted ≡ v .counts .sent + v .counts .expired + v .counts .displaced + howMany (v .waiting)
-  -- the ceiling: "in any window of W µs, 100 x air time admitted ≤ 3 W + 400,000"
+  -- the ceiling: "in any window of W µs, 100 x air time admitted ≤ 3 W + 400,000"; of profile 4, "01's
+  -- ceiling isn't claimed for it; W-207's 30,000 is" (document 02, W-209)
   pub ceiling : claimsCeiling profile ≡ true
       → (from w : ℕ) → 100 * airTime from w (j .admissions) ≤ 3 * w + spare
   -- "the admissions of the last second in the state" (document 02, W-207)

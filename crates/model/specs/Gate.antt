@@ -59,8 +59,8 @@ checks v c = clockChecks (sound v) (v .clock) (stampOf c) (ownChecks v c)
 abbrev pub unlessRefused : {h : Holding} → (number : ℕ) → Status h → Result h → Result h
 unlessRefused number given done = cond (eqb number 0) done (result given (Refused number))
 
--- 1 BAD-PROFILE: "make: profile not 1 to 3"; "1 asks for the old way, 0 for the new, any other number is
--- refused with 1" (document 02, W-205)
+-- 1 BAD-PROFILE: "At making .. a profile outside 1 to 4 now gets number 1" (document 02, W-209); "1 asks for
+-- the old way, 0 for the new, any other number is refused with 1" (W-205)
 abbrev pub makeChecks : Making → List Check
 makeChecks m = check 1 (not (isProfile (m .profile))) ∷ check 1 (ltb 1 (m .oldway)) ∷ []
 

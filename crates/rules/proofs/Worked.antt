@@ -6,11 +6,12 @@ use mathlib.Core.Bool.{true, false}
 use mathlib.Core.List.{List, [], _∷_, _++_, map}
 use mathlib.Core.Logic.{inl, inr}
 use lib.IntN.{ℤ, pos, negℤ}
+use lib.ListN.{length, getD}
 use lib.ListN.{replicate}
 use Rattle.rules.specs.declared.Sample.the-variants.{Busy, Bad}
 use Rattle.rules.specs.Tests.{allOf}
-use Rattle.rules.specs.Profiles.{profile3, fullLoad, topLevel, within, isProfile, isReactive, byProfile}
-use Rattle.rules.specs.Profiles.{reactiveOf, limitsOf, mostOntime, ontimeAllowed, dutyAllowed}
+use Rattle.rules.specs.Profiles.{profile3, profile4, fullLoad, topLevel, within, isProfile, isReactive}
+use Rattle.rules.specs.Profiles.{byProfile, reactiveOf, limitsOf, mostOntime, ontimeAllowed, dutyAllowed}
 use Rattle.rules.specs.Profiles.{lifetimeAllowed, lastPriority, room, mostOffers}
 use Rattle.rules.specs.Clock.{stamps, stepOf, goesBack, endOfTime, passesEnd}
 use Rattle.rules.specs.Refusals.{check, firstOf, FirstHolds, NoneHolds}
@@ -19,12 +20,14 @@ use Rattle.rules.specs.Samples.{sampleOf, sampleNumber, badCount, loadOf
 use Rattle.rules.specs.Levels.{wantedBy, towards, waitBy}
 use Rattle.rules.specs.Duty.{floorDiv, held, heldOffset, heldWhole, smoothedOf, offsetOf, dutyOf}
 use Rattle.rules.specs.Wait.{ceilDiv, wholeDuty, adaptiveWait, startOf}
+use Rattle.rules.specs.Harmonised.{perMille, factorOf, harmonisedWait}
+use Rattle.rules.specs.Table.{values, factorTable}
 use Rattle.rules.specs.Readings.{readings}
 use Rattle.rules.proofs.Readings.{readings-hold}
 
--- "profile 1 to 3"; "reactive" are 1 and 2
+-- "a profile outside 1 to 4" (W-209); "reactive" are 1 and 2
 
-profiles : map isProfile (0 ∷ 1 ∷ 2 ∷ 3 ∷ 4 ∷ []) ≡ false ∷ true ∷ true ∷ true ∷ false ∷ []
+profiles : map isProfile (0 ∷ 1 ∷ 2 ∷ 3 ∷ 4 ∷ 5 ∷ []) ≡ false ∷ true ∷ true ∷ true ∷ true ∷ false ∷ []
 unfolding within
 profiles = refl
 
@@ -32,13 +35,14 @@ reactive-profiles : map isReactive (0 ∷ 1 ∷ 2 ∷ 3 ∷ 4 ∷ []) ≡ false 
 unfolding within
 reactive-profiles = refl
 
--- a choice by a profile's number; a number that is no profile's is refused first, and goes with 3 here
-choice-by-profile : map (λ (p : ℕ). byProfile {A = ℕ} p 10 20 30) (1 ∷ 2 ∷ 3 ∷ 0 ∷ 4 ∷ []) ≡ 10 ∷ 20 ∷ 30 ∷ 30 ∷ 30 ∷ []
+-- a choice by a profile's number; a number that is no profile's is refused first, and goes with 4 here
+choice-by-profile :
+    map (λ (p : ℕ). byProfile {A = ℕ} p 10 20 30 40) (1 ∷ 2 ∷ 3 ∷ 4 ∷ 0 ∷ 5 ∷ []) ≡ 10 ∷ 20 ∷ 30 ∷ 40 ∷ 40 ∷ 40 ∷ []
 choice-by-profile = refl
 
--- "On-time allowed (µs)": "1 to 1,000", "1 to 500", "1 to 4,000"
+-- "On-time allowed (µs)": "1 to 1,000", "1 to 500", "1 to 4,000"; "on-time 1 to 4,000" in profile 4 (W-209)
 
-longest-on-times : map mostOntime (1 ∷ 2 ∷ 3 ∷ 0 ∷ []) ≡ 1000 ∷ 500 ∷ 4000 ∷ 4000 ∷ []
+longest-on-times : map mostOntime (1 ∷ 2 ∷ 3 ∷ 4 ∷ 0 ∷ []) ≡ 1000 ∷ 500 ∷ 4000 ∷ 4000 ∷ 4000 ∷ []
 unfolding mostOntime
 longest-on-times = refl
 
@@ -54,22 +58,27 @@ on-times-of-profile-3 : map (ontimeAllowed 3) (0 ∷ 1 ∷ 4000 ∷ 4001 ∷ [])
 unfolding ontimeAllowed mostOntime within
 on-times-of-profile-3 = refl
 
+on-times-of-profile-4 : map (ontimeAllowed 4) (0 ∷ 1 ∷ 4000 ∷ 4001 ∷ []) ≡ false ∷ true ∷ true ∷ false ∷ []
+unfolding ontimeAllowed mostOntime within
+on-times-of-profile-4 = refl
+
 on-times-of-no-profile : map (ontimeAllowed 0) (0 ∷ 1 ∷ 4000 ∷ 4001 ∷ []) ≡ false ∷ true ∷ true ∷ false ∷ []
 unfolding ontimeAllowed mostOntime within
 on-times-of-no-profile = refl
 
--- the least and the longest wait of profiles 1, 2 and 3
+-- the least and the longest wait of profiles 1 to 4
 
-least-waits : map (λ (p : ℕ). limitsOf p .leastwait) (1 ∷ 2 ∷ 3 ∷ []) ≡ 100000 ∷ 50000 ∷ 25000 ∷ []
+least-waits : map (λ (p : ℕ). limitsOf p .leastwait) (1 ∷ 2 ∷ 3 ∷ 4 ∷ []) ≡ 100000 ∷ 50000 ∷ 25000 ∷ 25000 ∷ []
 least-waits = refl
 
-longest-waits : map (λ (p : ℕ). limitsOf p .mostwait) (1 ∷ 2 ∷ 3 ∷ []) ≡ 1000000 ∷ 1000000 ∷ 1000000 ∷ []
+longest-waits : map (λ (p : ℕ). limitsOf p .mostwait) (1 ∷ 2 ∷ 3 ∷ 4 ∷ []) ≡ 1000000 ∷ 1000000 ∷ 1000000 ∷ 1000000 ∷ []
 longest-waits = refl
 
--- "In profiles 1 and 2 the wait now runs from admission plus that packet's on-time. Profile 3 stays as it is" (W-202)
+-- "In profiles 1 and 2 the wait now runs from admission plus that packet's on-time. Profile 3 stays as it is" (W-202); in profile
+-- 4 "It runs from the end of transmission." (W-209)
 start-of-the-wait :
-    map (λ (p : ℕ). startOf p 400) (1 ∷ 2 ∷ 3 ∷ []) ++ startOf 1 1000 ∷ startOf 2 1 ∷ startOf 3 4000 ∷ []
-    ≡ 400 ∷ 400 ∷ 0 ∷ 1000 ∷ 1 ∷ 0 ∷ []
+    map (λ (p : ℕ). startOf p 400) (1 ∷ 2 ∷ 3 ∷ 4 ∷ []) ++ startOf 1 1000 ∷ startOf 2 1 ∷ startOf 3 4000 ∷ startOf 4 4000 ∷ []
+    ≡ 400 ∷ 400 ∷ 0 ∷ 400 ∷ 1000 ∷ 1 ∷ 0 ∷ 4000 ∷ []
 unfolding startOf
 start-of-the-wait = refl
 
@@ -428,6 +437,49 @@ waits-at-the-least-duty :
     ≡ 25000 ∷ 25000 ∷ 26667 ∷ 998334 ∷ 1000000 ∷ 1000000 ∷ 1000000 ∷ []
 unfolding adaptiveWait
 waits-at-the-least-duty = refl
+
+-- "the latest load in per mille, rounded up" (W-209)
+loads-in-per-mille :
+    map perMille (0 ∷ 1 ∷ 999 ∷ 1000 ∷ 1001 ∷ 620000 ∷ 620001 ∷ 999001 ∷ 1000000 ∷ [])
+    ≡ 0 ∷ 1 ∷ 1 ∷ 1 ∷ 2 ∷ 620 ∷ 621 ∷ 1000 ∷ 1000 ∷ []
+unfolding perMille
+loads-in-per-mille = refl
+
+-- "Factors: c 621 gives 6, 622 gives 12, 700 gives 457, 1,000 gives 1,519." (W-209); "with 0 up to 620" (W-210)
+factors :
+    map (factorOf profile4) (0 ∷ 1 ∷ 619 ∷ 620 ∷ 621 ∷ 622 ∷ 700 ∷ 1000 ∷ []) ≡ 0 ∷ 0 ∷ 0 ∷ 0 ∷ 6 ∷ 12 ∷ 457 ∷ 1519 ∷ []
+unfolding factorOf
+factors = refl
+
+-- "A table of 1,001 whole numbers, one for each per mille" (W-210): how many, some of them, and none past the last
+table-of-factors :
+    length factorTable ∷ map (λ (c : ℕ). getD factorTable c 0) (0 ∷ 1 ∷ 619 ∷ 620 ∷ 621 ∷ 622 ∷ 700 ∷ 1000 ∷ 1001 ∷ [])
+    ≡ 1001 ∷ 0 ∷ 0 ∷ 0 ∷ 0 ∷ 6 ∷ 12 ∷ 457 ∷ 1519 ∷ 0 ∷ []
+unfolding factorOf values factorTable
+table-of-factors = refl
+
+-- "For c at most 620 the wait is 25,000": whatever the on-time, and "0 before any sample"
+calm-waits :
+    (ontime : ℕ)
+    → map (harmonisedWait profile4 ontime) (0 ∷ 1 ∷ 619001 ∷ 620000 ∷ []) ≡ 25000 ∷ 25000 ∷ 25000 ∷ 25000 ∷ []
+unfolding perMille harmonisedWait
+calm-waits ontime = refl
+
+-- "Above that .. the wait is the factor times the last on-time, held within 25,000 to 1,000,000" (W-209): at 620,001 it is held
+-- below, and 4,000 x 6 is; at 700,000 it is held below up to an on-time of 54, and above from 2,189 on; at 1,000,000 from 659 on
+waits-by-the-factor :
+    map
+    (λ (load : ℕ). map (λ (ontime : ℕ). harmonisedWait profile4 ontime load)
+    (1 ∷ 54 ∷ 55 ∷ 658 ∷ 659 ∷ 2188 ∷ 2189 ∷ 4000 ∷ []))
+    (620000 ∷ 620001 ∷ 621001 ∷ 700000 ∷ 1000000 ∷ [])
+    ≡ (25000 ∷ 25000 ∷ 25000 ∷ 25000 ∷ 25000 ∷ 25000 ∷ 25000 ∷ 25000 ∷ [])
+    ∷ (25000 ∷ 25000 ∷ 25000 ∷ 25000 ∷ 25000 ∷ 25000 ∷ 25000 ∷ 25000 ∷ [])
+    ∷ (25000 ∷ 25000 ∷ 25000 ∷ 25000 ∷ 25000 ∷ 26256 ∷ 26268 ∷ 48000 ∷ [])
+    ∷ (25000 ∷ 25000 ∷ 25135 ∷ 300706 ∷ 301163 ∷ 999916 ∷ 1000000 ∷ 1000000 ∷ [])
+    ∷ (25000 ∷ 82026 ∷ 83545 ∷ 999502 ∷ 1000000 ∷ 1000000 ∷ 1000000 ∷ 1000000 ∷ [])
+    ∷ []
+unfolding perMille factorOf harmonisedWait
+waits-by-the-factor = refl
 
 -- the lines marked P, read off the statement about them: these numbers, and what the paper reads
 lines-marked-P :

@@ -26,6 +26,9 @@ const START: u32 = 4_294_000_000;
 const TICK_US: u32 = 10_000;
 const TICKS: u32 = 300;
 
+/// The radio probes the channel each 8 µs, and is asked each 100 ms.
+const PROBES: usize = 12_500;
+
 /// What the host sends.
 #[derive(Clone, Copy)]
 struct Message {
@@ -87,11 +90,11 @@ struct Host {
     air_time: u32,
 }
 
-/// 1,000 probes of the channel, of which so many are busy.
-fn hear_channel(busy: usize) -> [u64; 16] {
-    let mut words = [0; 16];
-    for k in 0..1_000 {
-        if k * 7_919 % 1_000 < busy {
+/// The probes of the channel, of which so many are busy.
+fn hear_channel(busy: usize) -> [u64; PROBES.div_ceil(64)] {
+    let mut words = [0; PROBES.div_ceil(64)];
+    for k in 0..PROBES {
+        if k * 7_919 % PROBES < busy {
             words[k / 64] |= 1 << (k % 64);
         }
     }
@@ -127,7 +130,8 @@ impl Host {
 
     fn sample(&mut self, busy: usize) -> Result<(), Fault> {
         let level = self.level();
-        self.gate.sample_words(&hear_channel(busy), self.now)?;
+        let words = hear_channel(busy);
+        self.gate.sample_words(PROBES as u32, &words, self.now)?;
         writeln!(self.answers, "TAKEN")?;
         // The wait may be another one now, so the next poll is not put off any longer.
         self.quiet_until = self.now;
@@ -204,9 +208,9 @@ impl Host {
     fn tick(&mut self, t: u32) -> Result<(), Fault> {
         if t % 10 == 0 {
             self.sample(match t {
-                0..50 => 200,
-                50..150 => 700,
-                _ => 100,
+                0..50 => 2_500,
+                50..150 => 8_750,
+                _ => 1_250,
             })?;
         }
         if t % 50 == 2 {

@@ -35,16 +35,26 @@ pub fn duty_update() -> Vec<[u32; 4]> {
     many(|draw| [draw.duty(), draw.load(), draw.load(), draw.load()])
 }
 
-/// Profile, level, duty and an on-time that the profile allows.
-pub fn wait() -> Vec<[u32; 4]> {
+/// Duty and three loads, as fractions of 1.
+pub fn float_update() -> Vec<[f64; 4]> {
+    let fractions = |[duty, smoothed, kept, new]: [u32; 4]| {
+        let loads = [smoothed, kept, new].map(|load| f64::from(load) / 1e6);
+        [f64::from(duty) / 1e9, loads[0], loads[1], loads[2]]
+    };
+    duty_update().into_iter().map(fractions).collect()
+}
+
+/// Profile of a range, level, duty, an on-time that the profile allows, and a load.
+pub fn wait(first: u32, last: u32) -> Vec<[u32; 5]> {
     many(|draw| {
-        let profile = draw.between(1, 3);
-        let most_ontime = [1_000, 500, 4_000][profile as usize - 1];
+        let profile = draw.between(first, last);
+        let most_ontime = [1_000, 500, 4_000, 4_000][profile as usize - 1];
         [
             profile,
             draw.between(0, 4),
             draw.duty(),
             draw.between(1, most_ontime),
+            draw.load(),
         ]
     })
 }

@@ -1,4 +1,4 @@
-//! Measures the archive's four calls beside the same calls in plain Rust.
+//! Measures the archives' four calls and the floating update beside the same calls in plain Rust.
 //!
 //! Both sides have the same calling convention, the same loop around them and the same inputs, in the
 //! same run. Rounds of the two take turns, so that a busy machine slows both; the medians are printed.
@@ -66,10 +66,18 @@ fn pass_three<A>(call: extern "C" fn(u32, u32, u32) -> A, inputs: &[[u32; 3]]) {
     }
 }
 
-fn pass_four<A>(call: extern "C" fn(u32, u32, u32, u32) -> A, inputs: &[[u32; 4]]) {
+fn pass_four<N: Copy, A>(call: extern "C" fn(N, N, N, N) -> A, inputs: &[[N; 4]]) {
     let call = black_box(call);
     for &[a, b, c, d] in inputs {
-        black_box(call(a, b, c, d));
+        // By reference: an answer that comes back in memory is not copied right after it was written.
+        black_box(&call(a, b, c, d));
+    }
+}
+
+fn pass_five<A>(call: extern "C" fn(u32, u32, u32, u32, u32) -> A, inputs: &[[u32; 5]]) {
+    let call = black_box(call);
+    for &[a, b, c, d, e] in inputs {
+        black_box(call(a, b, c, d, e));
     }
 }
 
@@ -94,17 +102,24 @@ fn duty_update() {
     compare("duty update", inputs.len(), &rattle, &plain);
 }
 
-fn wait() {
-    let inputs = inputs::wait();
-    let rattle = || pass_four(sys::presscurlew_wait, &inputs);
-    let plain = || pass_four(peers::wait, &inputs);
-    compare("wait", inputs.len(), &rattle, &plain);
+fn wait(name: &str, first: u32, last: u32) {
+    let inputs = inputs::wait(first, last);
+    let rattle = || pass_five(sys::presscurlew_wait, &inputs);
+    let plain = || pass_five(peers::wait, &inputs);
+    compare(name, inputs.len(), &rattle, &plain);
+}
+
+fn float_update() {
+    let inputs = inputs::float_update();
+    let rattle = || pass_four(sys::presscurlew_float_update, &inputs);
+    let plain = || pass_four(peers::float_update, &inputs);
+    compare("float update", inputs.len(), &rattle, &plain);
 }
 
 /// Prints what the loop and an empty call cost: a part of every time printed.
 fn overhead() {
-    let inputs = inputs::wait();
-    let empty = || pass_four(peers::nothing, &inputs);
+    let inputs = inputs::wait(1, 4);
+    let empty = || pass_five(peers::nothing, &inputs);
     let times = (0..ROUNDS).map(|_| round(inputs.len(), &empty)).collect();
     println!("loop and an empty call: {:.2} ns of each", median(times));
 }
@@ -118,7 +133,9 @@ fn main() {
     wanted_level();
     level_step();
     duty_update();
-    wait();
+    wait("wait, 1 to 3", 1, 3);
+    wait("wait, 4", 4, 4);
+    float_update();
     overhead();
 }
 
@@ -141,9 +158,16 @@ mod tests {
             let expected = sys::presscurlew_duty_update(duty, smoothed, kept, new);
             assert_eq!(peers::duty_update(duty, smoothed, kept, new), expected);
         }
-        for [profile, level, duty, ontime] in inputs::wait() {
-            let expected = sys::presscurlew_wait(profile, level, duty, ontime);
-            assert_eq!(peers::wait(profile, level, duty, ontime), expected);
+        for [profile, level, duty, ontime, load] in inputs::wait(1, 4) {
+            let expected = sys::presscurlew_wait(profile, level, duty, ontime, load);
+            assert_eq!(peers::wait(profile, level, duty, ontime, load), expected);
+        }
+        for [duty, smoothed, kept, new] in inputs::float_update() {
+            let expected = sys::presscurlew_float_update(duty, smoothed, kept, new);
+            let answer = peers::float_update(duty, smoothed, kept, new);
+            assert_eq!(answer.smoothed.to_bits(), expected.smoothed.to_bits());
+            assert_eq!(answer.duty.to_bits(), expected.duty.to_bits());
+            assert_eq!((answer.refusal, expected.refusal), (0, 0));
         }
     }
 }

@@ -59,6 +59,7 @@ pub struct State {
     pub smoothed: u32,
     pub kept: u32,
     pub pairing: u32,
+    pub latest: u32,
     pub profile: u32,
     /// 1 if a full queue refuses, 0 if it drops its oldest.
     pub oldway: u32,
@@ -78,6 +79,28 @@ const END: u64 = 1_000_000_000_000_000;
 const MOST_OFFERS: u64 = 1_000_000_000_000_000;
 const SECOND: u64 = 1_000_000;
 const MOST_AIR: u32 = 30_000;
+const MOST_PROBES: u32 = 12_500;
+
+/// Profile 4's wait, worked out by its formula.
+pub fn harmonised_wait(ontime: u32, load: u32) -> u32 {
+    let per_mille = load.div_ceil(1_000);
+    if per_mille <= 620 {
+        return 25_000;
+    }
+    ((3_999 - 2_480_000 / per_mille) * ontime).clamp(25_000, 1_000_000)
+}
+
+/// The busy probes of a sample by words, unless it is none.
+pub fn busy_of(probes: u32, words: &[u64]) -> Option<u32> {
+    if probes > MOST_PROBES || words.len() != probes.div_ceil(64) as usize {
+        return None;
+    }
+    let last = words.last()?;
+    if probes % 64 != 0 && last >> (probes % 64) != 0 {
+        return None;
+    }
+    Some(words.iter().map(|word| word.count_ones()).sum())
+}
 
 fn most_ontime(profile: u32) -> u32 {
     match profile {
@@ -230,7 +253,7 @@ impl State {
     /// The whole soundness test.
     pub fn is_sound(&self) -> bool {
         let tuning = self.live == 1
-            && (1..=3).contains(&self.profile)
+            && (1..=4).contains(&self.profile)
             && self.oldway <= 1
             && self.level <= 4
             && (600_000..=30_000_000).contains(&self.duty)
@@ -240,6 +263,10 @@ impl State {
                 0 => self.kept == 0,
                 1 => self.profile == 3,
                 _ => false,
+            }
+            && match self.profile {
+                4 => self.latest <= 1_000_000,
+                _ => self.latest == 0,
             };
         let most = most_ontime(self.profile);
         let last = self.time <= END
@@ -297,7 +324,9 @@ impl State {
     }
 
     fn take_load(&mut self, load: u32) {
-        if self.profile != 3 {
+        if self.profile == 4 {
+            self.latest = load;
+        } else if self.profile != 3 {
             let last = if self.profile == 1 { 600_000 } else { 650_000 };
             let wanted = match load {
                 0..=299_999 => 0,
@@ -324,7 +353,7 @@ impl State {
         }
     }
 
-    /// How long the gate is closed after the last admission: in profiles 1 and 2 the wait starts when that packet ends.
+    /// How long the gate is closed after the last admission: but in profile 3 the wait starts when that packet ends.
     fn closed_for(&self) -> u64 {
         const WAITS: [[u64; 5]; 2] = [
             [100_000, 200_000, 400_000, 500_000, 1_000_000],
@@ -333,22 +362,33 @@ impl State {
         if self.profile < 3 {
             return self.ontime as u64 + WAITS[self.profile as usize - 1][self.level as usize];
         }
+        if self.profile == 4 {
+            return (self.ontime + harmonised_wait(self.ontime, self.latest)) as u64;
+        }
         let spread = self.ontime as u64 * 1_000_000_000;
         spread.div_ceil(self.duty as u64).clamp(25_000, 1_000_000)
     }
 
     /// (b) A sample by its busy count, in place.
-    pub fn sample(&mut self, busy: u32, stamp: u32) -> Answer {
+    pub fn sample(&mut self, busy: u32, probes: u32, stamp: u32) -> Answer {
         let now = match self.time_at(stamp) {
             Ok(now) => now,
             Err(refused) => return refused,
         };
-        if busy > 1000 {
+        if probes == 0 || probes > MOST_PROBES || busy > probes {
             return Answer::Refused(4);
         }
         self.move_to(now, stamp);
-        self.take_load(1000 * busy);
+        self.take_load((1_000_000 * busy as u64 / probes as u64) as u32);
         Answer::Taken
+    }
+
+    /// (b) A sample by words, in place. Words that are no sample are refused as 1 busy of 0 probes is.
+    pub fn sample_words(&mut self, probes: u32, words: &[u64], stamp: u32) -> Answer {
+        match busy_of(probes, words) {
+            Some(busy) => self.sample(busy, probes, stamp),
+            None => self.sample(1, 0, stamp),
+        }
     }
 
     /// (b) An offer, in place.
@@ -423,11 +463,20 @@ pub mod by_value {
     use super::{Answer, State};
 
     #[inline(never)]
-    pub fn sample(mut s: State, busy: u32, stamp: u32) -> (State, Answer) {
+    pub fn sample(mut s: State, busy: u32, probes: u32, stamp: u32) -> (State, Answer) {
         if !s.is_sound() {
             return (s, Answer::Refused(9));
         }
-        let answer = s.sample(busy, stamp);
+        let answer = s.sample(busy, probes, stamp);
+        (s, answer)
+    }
+
+    #[inline(never)]
+    pub fn sample_words(mut s: State, probes: u32, words: &[u64], stamp: u32) -> (State, Answer) {
+        if !s.is_sound() {
+            return (s, Answer::Refused(9));
+        }
+        let answer = s.sample_words(probes, words, stamp);
         (s, answer)
     }
 

@@ -10,7 +10,7 @@ const HELP: &str = "\
 curlew: make, read, check and draw call logs of the Presscurlew gate
 
   curlew write [IN.txt] [-o OUT.log]         plain text to a log
-  curlew show LOG [ANSWERS]                  a table: call, answer, counts, what waits, air, level or duty
+  curlew show LOG [ANSWERS]                  a table: call, answer, counts, what waits, air, the wait
   curlew check LOG ANSWERS                   were ceiling and floor kept, and do the counts add up
   curlew plot LOG [ANSWERS] -o OUT.svg       a picture of a run
   curlew --help | --version                  'curlew COMMAND --help' says more on one command
@@ -35,6 +35,7 @@ Reads standard input without IN.txt, writes to standard output without -o. One c
   make PROFILE at STAMP                      a full queue drops its oldest for the new one
   make PROFILE keep-oldest at STAMP          a full queue keeps them, and refuses the new one with 8
   sample BUSY at STAMP                       BUSY of 1,000 probes were busy
+  sample BUSY of PROBES at STAMP             BUSY of so many probes
   offer ID priority P ontime T lifetime T at STAMP
   poll at STAMP
   raw B B B ..                               any record: 16 bytes, 00 to ff
@@ -56,9 +57,9 @@ curlew show [--from N] [--first N] --plain LOG: a log in the plain form
 
 A line a record: its number, the run's time in seconds, the call, the answer, how many packets
 were accepted, sent, expired and displaced so far, how many wait in the queue of each priority,
-the air time in the last second, and the level (profiles 1 and 2) or the duty (profile 3) with
-the wait that it asks for: after the end of a packet (profiles 1 and 2) or from its start on
-(profile 3). Packets are counted from calls and answers alone, an expired one when it is
+the air time in the last second, and the level (profiles 1 and 2), the duty (profile 3) or the
+latest load (profile 4) with the wait that it asks for: after the end of a packet, or in profile 3
+from its start on. Packets are counted from calls and answers alone, an expired one when it is
 removed: at the first offer or poll that finds it expired. An offer that found its queue full
 says which packet it displaced, behind its answer; a poll that is closed for longer than the
 wait says that the second is full. Without ANSWERS, the answers are those of the second program.
@@ -78,16 +79,17 @@ calls and the answers alone, and says of each run:
 
   Counts     accepted = sent + expired + displaced + waiting at every record, and each of the
              first four is what the second program's state has counted
-  Ceiling    in any window of W µs, 100 x air time is at most 3 W + 400,000
+  Ceiling    in any window of W µs, 100 x air time is at most 3 W + 400,000; profile 4 doesn't
+             promise that
   Second     in any second, one of its ends left out, at most 30 ms are admitted; admissions are
              at least 25 ms apart; the last second is what the second program's state holds
-  Floor      a poll that finds a packet 1.001 s (profile 1), 1.0005 s (profile 2) or 1 s
-             (profile 3) or more after the last admission sends
+  Floor      a poll that finds a packet 1.001 s (profile 1), 1.0005 s (profile 2), 1 s
+             (profile 3) or 1.004 s (profile 4) or more after the last admission sends
   Turn       of each priority in order; one of priority 0 sees no more go than came before it;
              a packet is displaced only by the fifth or a later offer of its priority after it
   Delivery   one of priority 0 with k before it and polls at most p apart goes in time:
              no later than (k + 1) x (floor + p) after it came, if it lives longer than that
-             and is not displaced
+             and is not displaced; where no packet did, it is not promised
   Answers    each is what the second program answers
 
 with the nearest that the run came to its limit. ANSWERS must fit the log: a line a record,
@@ -97,10 +99,10 @@ then END or TORN. Exit status 1 if anything was not kept, 2 if the answers don't
 const PLOT_HELP: &str = "\
 curlew plot [--run N] [--from T] [--to T] LOG [ANSWERS] -o OUT.svg: a picture of a run
 
-Over the run's time: the channel load, the level or duty, what waits in each queue, what was
+Over the run's time: the channel load, the level, duty or wait, what waits in each queue, what was
 sent, what expired and what was displaced, the time since the last admission beside the floor,
-and the air time in a sliding second beside the ceiling. LOG and ANSWERS are read twice, so they
-can't be -.
+and the on-time admitted in the last second beside its limit of 30 ms. LOG and ANSWERS are read
+twice, so they can't be -.
 
   --run N      the Nth run of the log (the first)
   --from T     a part of the run: from this time on, in µs or with a unit, as 500ms or 12s

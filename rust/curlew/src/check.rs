@@ -19,6 +19,7 @@ pub fn check(wish: &CheckWish) -> Result<(), Fault> {
         output: BufWriter::new(io::stdout().lock()),
         broken: 0,
         kept: 0,
+        without_ceiling: false,
     };
     let whole = follow("check", &wish.log, Some(&wish.answers), &mut verdict)?;
     let out = &mut verdict.output;
@@ -33,6 +34,11 @@ pub fn check(wish: &CheckWish) -> Result<(), Fault> {
     let kept = verdict.broken == 0 && whole.loose.is_none();
     if kept && whole.runs == 0 {
         writeln!(out, "Verdict: KEPT, but there was no run to look at.")?;
+    } else if kept && verdict.without_ceiling {
+        writeln!(
+            out,
+            "Verdict: KEPT. Second and floor held throughout, and the ceiling where it is promised."
+        )?;
     } else if kept {
         writeln!(out, "Verdict: KEPT. Ceiling and floor held throughout.")?;
     } else if verdict.broken > 0 {
@@ -57,6 +63,7 @@ struct Verdict<'a> {
     output: BufWriter<StdoutLock<'a>>,
     broken: u64,
     kept: u64,
+    without_ceiling: bool,
 }
 
 impl Hearer for Verdict<'_> {
@@ -73,6 +80,7 @@ impl Hearer for Verdict<'_> {
             return Ok(());
         }
         self.kept += 1;
+        self.without_ceiling |= !run.book.owes_ceiling();
         if self.kept > TOLD_IN_FULL {
             return Ok(());
         }
@@ -133,29 +141,32 @@ fn counts(run: &Run) -> String {
     )
 }
 
+/// The ceiling, where it is promised, and the second.
 fn ceiling(run: &Run, lines: &mut Vec<(&'static str, String)>) {
-    let (Some(closest), Some(fullest)) = (run.watch.closest, run.watch.fullest) else {
-        lines.push(("Ceiling", "KEPT: nothing was sent.".to_string()));
-        return;
-    };
-    lines.push((
-        "Ceiling",
-        format!(
+    let ceiling = match run.watch.closest {
+        _ if !run.book.owes_ceiling() => format!(
+            "Not promised in profile {}, where 25 ms after one packet the next may go.",
+            run.profile
+        ),
+        None => "KEPT: nothing was sent.".to_string(),
+        Some(closest) => format!(
             "KEPT. Closest call: {}, with {} of the {} allowed.",
             closest.place(),
             span(closest.air),
             span(closest.allowed())
         ),
-    ));
-    lines.push((
-        "Second",
-        format!(
+    };
+    lines.push(("Ceiling", ceiling));
+    let second = match run.watch.fullest {
+        None => "KEPT: nothing was sent.".to_string(),
+        Some(fullest) => format!(
             "KEPT. Closest call: {}, with {} of the {} allowed in any second.",
             fullest.place(),
             span(fullest.air),
             span(STRETCH_MOST)
         ),
-    ));
+    };
+    lines.push(("Second", second));
 }
 
 fn floor(run: &Run, lines: &mut Vec<(&'static str, String)>) {
@@ -195,18 +206,29 @@ fn turn(run: &Run, lines: &mut Vec<(&'static str, String)>) {
     if let Some(fewest) = run.book.closest().fewest_offers {
         lines.push(("", displaced(run, fewest)));
     }
-    let delivery = match watch.zero_sent + watch.zero_expired + watch.zero_displaced {
-        0 => "KEPT. No packet of priority 0 left.".to_string(),
-        _ => format!(
-            "KEPT. Of priority 0, {} went, {} expired and {} displaced.",
-            grouped(watch.zero_sent),
-            grouped(watch.zero_expired),
-            was_or_were(watch.zero_displaced)
-        ),
-    };
-    lines.push(("Delivery", delivery));
+    lines.push(("Delivery", delivery(run)));
     if let Some(wait) = watch.nearest_wait {
         lines.push(("", nearest(&wait)));
+    }
+}
+
+/// What became of the packets of priority 0, and to which of them delivery was
+/// promised at all: one that does not live as long as its bound, or is
+/// displaced, had no promise.
+fn delivery(run: &Run) -> String {
+    let watch = &run.watch;
+    if watch.zero_sent + watch.zero_expired + watch.zero_displaced == 0 {
+        return "Not promised here: no packet of priority 0 left.".to_string();
+    }
+    let left = format!(
+        "Of priority 0, {} went, {} expired and {} displaced",
+        grouped(watch.zero_sent),
+        grouped(watch.zero_expired),
+        was_or_were(watch.zero_displaced)
+    );
+    match watch.zero_promised {
+        0 => format!("Not promised here: none lived longer than the label's bound. {left}."),
+        promised => format!("KEPT. {left}; {} promised to go.", was_or_were(promised)),
     }
 }
 

@@ -434,7 +434,8 @@ mod tests {
             }
             let closest = run.watch.closest;
             assert_eq!(closest.map(|window| window.slack()), least);
-            assert_eq!(run.book.closest().smallest_slack, least);
+            let owed = least.filter(|_| run.book.owes_ceiling());
+            assert_eq!(run.book.closest().smallest_slack, owed);
             if let Some(window) = closest {
                 assert_eq!(window.air, air(window.from, window.to));
             }
@@ -509,7 +510,7 @@ mod tests {
         let mut follower = Follower::new();
         let mut stamp = 0u32;
         for number in 1..=20_000 {
-            let profile = 1 + rng.below(3) as u8;
+            let profile = 1 + rng.below(4) as u8;
             stamp = stamp.wrapping_add(rng.below(60_000) as u32);
             let made = number % 400 == 1;
             let record = Record {

@@ -5,7 +5,7 @@ use std::fs::File;
 use std::io::{self, BufRead, BufWriter, Write};
 
 use reference::log::{Record, RECORD_BYTES};
-use reference::rules::{NEW_WAY, OLD_WAY};
+use reference::rules::{NEW_WAY, OLD_WAY, PROBES};
 
 use crate::fault::Fault;
 use crate::progress::Progress;
@@ -26,6 +26,9 @@ const DROPS: &str = "drop-oldest";
 const KEEPS: &str = "keep-oldest";
 /// The word before the number of any other way, which the gate refuses.
 const WAY: &str = "way";
+
+/// The word before the number of a sample's probes; without it they are 1,000.
+const OF: &str = "of";
 
 /// The longest line that is read.
 const LONGEST_LINE: u64 = 4_096;
@@ -167,11 +170,14 @@ impl Reader {
         })
     }
 
+    /// A sample: its busy count, its probes if they are told, and its stamp.
     fn sample(&self, words: &mut Words) -> Result<Record, String> {
         let id = words.number("the busy count")?;
+        let lifetime = words.probes()?;
         let stamp = self.at(words)?;
         Ok(Record {
             kind: 1,
+            lifetime,
             id,
             stamp,
             ..Record::default()
@@ -291,6 +297,21 @@ impl<'a> Words<'a> {
         Ok(way)
     }
 
+    /// The field of a sample's probes, in which 0 means 1,000; so no field says
+    /// that there were none.
+    fn probes(&mut self) -> Result<u32, String> {
+        let mut ahead = self.words.clone();
+        if ahead.next() != Some(OF) {
+            return Ok(0);
+        }
+        self.words = ahead;
+        match self.number("the probe count")? {
+            0 => Err("no record says 0 probes: its 0 means 1,000".to_string()),
+            PROBES => Ok(0),
+            other => Ok(other),
+        }
+    }
+
     /// A time, with or without a unit.
     fn time(&mut self, what: &str) -> Result<u64, String> {
         let word = self.word(what)?;
@@ -397,7 +418,7 @@ pub fn call(record: &Record) -> String {
     } = record;
     match kind {
         0 => format!("make {priority}{} at {stamp}", way(*lifetime)),
-        1 => format!("sample {id} at {stamp}"),
+        1 => format!("sample {id}{} at {stamp}", probes(record)),
         2 => {
             format!("offer {id} priority {priority} ontime {ontime} lifetime {lifetime} at {stamp}")
         }
@@ -412,6 +433,14 @@ pub fn way(number: u32) -> String {
         NEW_WAY => String::new(),
         OLD_WAY => format!(" {KEEPS}"),
         other => format!(" {WAY} {other}"),
+    }
+}
+
+/// The words for the probes of a sample; there are none for 1,000.
+fn probes(record: &Record) -> String {
+    match record.probes() {
+        PROBES => String::new(),
+        other => format!(" {OF} {other}"),
     }
 }
 
@@ -474,6 +503,40 @@ mod tests {
     }
 
     #[test]
+    fn a_sample_tells_its_probes() {
+        for (text, lifetime, plain) in [
+            ("sample 620 at 5", 0, "sample 620 at 5"),
+            ("sample 620 of 1_000 at 5", 0, "sample 620 at 5"),
+            (
+                "sample 620 of 12_500 at 5",
+                12_500,
+                "sample 620 of 12500 at 5",
+            ),
+            ("sample 620 of 1 at 5", 1, "sample 620 of 1 at 5"),
+        ] {
+            let read = record_of(text);
+            let sample = Record {
+                kind: 1,
+                lifetime,
+                id: 620,
+                stamp: 5,
+                ..Record::default()
+            };
+            assert_eq!(read, sample, "{text}");
+            assert_eq!(line(&read), plain);
+        }
+        // A field that says 1,000 reads alike, and is not what the words write.
+        let says = Record {
+            kind: 1,
+            lifetime: 1_000,
+            id: 620,
+            ..Record::default()
+        };
+        assert_eq!(call(&says), "sample 620 at 0");
+        assert!(line(&says).starts_with("raw 01 "), "{}", line(&says));
+    }
+
+    #[test]
     fn a_stamp_may_follow_the_one_before() {
         let mut reader = Reader::default();
         let mut stamp = |line: &str| {
@@ -523,6 +586,13 @@ mod tests {
             ("make keep-oldest at 0", "'keep-oldest' is no number"),
             ("make 1 way at 0", "'at' is no number for the way"),
             ("make 1 way 4294967296 at 0", "the way is too large"),
+            ("sample 5 of 0 at 0", "no record says 0 probes"),
+            ("sample 5 of at 0", "'at' is no number for the probe count"),
+            ("sample 5 of 9 of 9 at 0", "'of' where 'at' is due"),
+            (
+                "sample 5 of 4294967296 at 0",
+                "the probe count is too large",
+            ),
             ("poll 5", "'5' where 'at' is due"),
             (
                 "offer 7 priority 1 ontime 1 at 0",

@@ -4,6 +4,7 @@ use std::collections::VecDeque;
 
 use reference::book::{STRETCH, STRETCH_MOST};
 use reference::rules;
+use reference::state::State;
 
 use crate::fault::Fault;
 use crate::follow::{follow, Hearer, Row, Run};
@@ -115,10 +116,10 @@ impl Hearer for Survey {
 
 /// The line below the title.
 fn facts(run: &Run) -> String {
-    let kind = if run.profile == 3 {
-        "adaptive"
-    } else {
-        "reactive"
+    let kind = match run.profile {
+        3 => "adaptive",
+        4 => "harmonised",
+        _ => "reactive",
     };
     let counts = run.book.counts();
     format!(
@@ -156,8 +157,8 @@ const DISPLACED: f64 = 680.0;
 const LANE: f64 = 32.0;
 const LANE_HEIGHT: f64 = 28.0;
 
-/// The most air time in any second, in ms, and the top of its panel.
-const CEILING_MS: f64 = STRETCH_MOST as f64 / 1e3;
+/// The most on-time admitted in any second, in ms, and the top of its panel.
+const SECOND_MS: f64 = STRETCH_MOST as f64 / 1e3;
 const AIR_MOST: f64 = 33.0;
 
 /// No more dots than this are drawn on the line of the load.
@@ -294,8 +295,8 @@ impl Drawing {
         f64::from(most) / 1e3
     }
 
-    fn sampled(&mut self, busy: u32, smoothed: u32) {
-        let (x, y) = (self.x(self.now), height(LOAD, f64::from(busy), 1_000.0));
+    fn sampled(&mut self, load: u32, smoothed: u32) {
+        let (x, y) = (self.x(self.now), height(LOAD, f64::from(load), 1e6));
         self.load.step(x, y);
         if self.dotted && self.inside() {
             self.dots += &format!(r#"<circle class="dot" cx="{x:.1}" cy="{y:.1}" r="1.9"/>"#);
@@ -306,12 +307,13 @@ impl Drawing {
         }
     }
 
-    /// The level or the duty.
-    fn controlled(&mut self, level: u32, duty: u32) {
-        let y = if self.profile == 3 {
-            height(CONTROL, f64::from(duty) / 1e7, 3.0)
-        } else {
-            height(CONTROL, f64::from(level), 4.0)
+    /// The level, the duty, or the wait that the load asks for.
+    fn controlled(&mut self, state: &State) {
+        let wait = state.wait(state.ontime).unwrap_or(0);
+        let y = match self.profile {
+            3 => height(CONTROL, f64::from(state.duty) / 1e7, 3.0),
+            4 => height(CONTROL, f64::from(wait) / 1e6, 1.0),
+            _ => height(CONTROL, f64::from(state.level), 4.0),
         };
         let x = self.x(self.now);
         self.control.step(x, y);
@@ -463,9 +465,11 @@ impl Hearer for Drawing {
             self.draw_air(0);
         }
         if row.record.kind == 1 {
-            self.sampled(row.record.id, row.state.smoothed);
+            // A sample that was taken has a load.
+            let load = rules::load_of_count(row.record.id, row.record.probes());
+            self.sampled(load.unwrap_or(0), row.state.smoothed);
         }
-        self.controlled(row.state.level, row.state.duty);
+        self.controlled(row.state);
         let waited = self.lengths.iter().any(|length| *length > 0);
         let last = self.last_sent;
         let sent = row.sent.map(|packet| packet.priority as usize);
@@ -520,8 +524,8 @@ impl Drawing {
         self.since_panel(&mut svg);
         self.air_panel(&mut svg);
         let description = format!(
-            "{}. From top to bottom, over the run's time: channel load, level or duty, packets waiting, packets sent, \
-             expired and displaced, time since the last admission beside the floor, air time in a sliding second beside the ceiling.",
+            "{}. From top to bottom, over the run's time: channel load, level, duty or wait, packets waiting, packets sent, \
+             expired and displaced, time since the last admission beside the floor, on-time admitted in the last second beside its limit.",
             found.facts
         );
         svg.whole(title, &description, STYLE)
@@ -568,9 +572,19 @@ impl Drawing {
             }
             note(svg, LOAD, "dotted: where the wanted level changes");
         } else {
-            let y = height(LOAD, f64::from(rules::PROFILE_3.load_target), 1e6);
+            let (limit, text) = match self.profile {
+                4 => (
+                    1_000 * rules::PROFILE_4.calm_to,
+                    "dotted: 62 %, above which the wait grows",
+                ),
+                _ => (
+                    rules::PROFILE_3.load_target,
+                    "orange: smoothed; dotted: the target, 68 %",
+                ),
+            };
+            let y = height(LOAD, f64::from(limit), 1e6);
             svg.line((LEFT, y), (RIGHT, y), "rule");
-            note(svg, LOAD, "orange: smoothed; dotted: the target, 68 %");
+            note(svg, LOAD, text);
         }
         self.load.level(RIGHT);
         svg.path(&self.load.path(), "trace");
@@ -589,6 +603,14 @@ impl Drawing {
                     let text = format!("{level}: {}", span(u64::from(*wait)));
                     svg.text((LEFT - 8.0, y + 4.0), Anchor::End, "tick", &text);
                 }
+            }
+            None if self.profile == 4 => {
+                heading(
+                    svg,
+                    CONTROL,
+                    "Wait after the last packet (s), by the latest load",
+                );
+                scale(svg, CONTROL, 1.0, &[0.0, 0.25, 0.5, 0.75, 1.0], 2);
             }
             None => {
                 heading(svg, CONTROL, "Duty (% of the time that may be on air)");
@@ -668,14 +690,14 @@ impl Drawing {
     }
 
     fn air_panel(&mut self, svg: &mut Svg) {
-        heading(svg, AIR, "Air time in the second before (ms)");
+        heading(svg, AIR, "On-time admitted in the last second (ms)");
         scale(svg, AIR, AIR_MOST, &[0.0, 10.0, 20.0, 30.0], 0);
-        let y = height(AIR, CEILING_MS, AIR_MOST);
+        let y = height(AIR, SECOND_MS, AIR_MOST);
         svg.line((LEFT, y), (RIGHT, y), "limit");
         limit_name(
             svg,
             AIR,
-            "ceiling, guaranteed: never above 30 ms in any second",
+            "limit, guaranteed: at most 30 ms are admitted in any second",
         );
         self.slide(self.to);
         self.air.level(RIGHT);

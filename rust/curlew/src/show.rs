@@ -4,7 +4,6 @@ use std::fmt::Display;
 use std::io::{self, BufWriter, StdoutLock, Write};
 
 use reference::log::Record;
-use reference::rules;
 use reference::state::{Counts, State};
 
 use crate::fault::Fault;
@@ -105,12 +104,12 @@ impl Table<'_> {
         writeln!(out, "{}, {of}", self.wish.log)?;
         writeln!(
             out,
-            "{:>6}  {:>13}  {:<43}  {:<26}  {:<33}  {:^9}  {:>9}  gate",
+            "{:>6}  {:>13}  {:<45}  {:<26}  {:<33}  {:^9}  {:>9}  gate",
             "", "time", "", "", "packets", "waiting", "air in"
         )?;
         writeln!(
             out,
-            "{:>6}  {:>13}  {:<43}  {:<26}  {}  {:^9}  {:>9}  level or duty, wait",
+            "{:>6}  {:>13}  {:<45}  {:<26}  {}  {:^9}  {:>9}  level, duty or load; wait",
             "record",
             "(s)",
             "call",
@@ -145,7 +144,7 @@ impl Hearer for Table<'_> {
             };
         }
         let line = format!(
-            "{:>6}  {:>13}  {:<43}  {:<26}  {packets}  {:^9}  {air:>9}  {}",
+            "{:>6}  {:>13}  {:<45}  {:<26}  {packets}  {:^9}  {air:>9}  {}",
             grouped(row.number),
             time,
             call(&row.record),
@@ -211,7 +210,10 @@ fn call(record: &Record) -> String {
             let way = plain::way(*lifetime);
             format!("make, profile {priority}{way}, stamp {}", grouped(*stamp))
         }
-        1 => format!("sample, {} of 1,000 busy", grouped(*id)),
+        1 => {
+            let probes = grouped(record.probes());
+            format!("sample, {} of {probes} busy", grouped(*id))
+        }
         2 => {
             let lifetime = span(u64::from(*lifetime));
             format!("offer {id}: priority {priority}, {ontime} µs, lives {lifetime}")
@@ -237,25 +239,24 @@ fn answer(row: &Row) -> String {
 /// What is left of the wait, if something was admitted.
 fn wait_left(state: &State) -> Option<u64> {
     let last = state.last()?;
-    let closed = rules::closed_for(state.profile, state.level, state.duty, last.ontime)?;
+    let closed = state.closed_for(last.ontime)?;
     Some(closed.saturating_sub(state.time - last.at))
 }
 
-/// The level or the duty, and the wait that it asks for.
+/// The level, the duty or the latest load, and the wait that it asks for; by
+/// duty or load that needs a packet that was sent.
 fn control(state: &State) -> String {
     if !state.live {
         return "no gate".to_string();
     }
-    let wait = rules::wait(state.profile, state.level, state.duty, state.ontime);
-    let wait = wait.map_or(String::new(), |wait| span(u64::from(wait)));
-    if state.profile == 3 {
-        let duty = percent(state.duty, 1_000_000_000, 3);
-        if state.any {
-            format!("duty {duty}, {wait}")
-        } else {
-            format!("duty {duty}")
-        }
-    } else {
-        format!("level {}, {wait}", state.level)
+    let by = match state.profile {
+        3 => format!("duty {}", percent(state.duty, 1_000_000_000, 3)),
+        4 => format!("load {}", percent(state.latest, 1_000_000, 3)),
+        _ => format!("level {}", state.level),
+    };
+    let known = state.any || matches!(state.profile, 1 | 2);
+    match state.wait(state.ontime).filter(|_| known) {
+        Some(wait) => format!("{by}, {}", span(u64::from(wait))),
+        None => by,
     }
 }

@@ -96,6 +96,9 @@ pub struct Watch {
     /// How many packets of priority 0 were sent, how many expired, and how many
     /// were displaced.
     pub zero_sent: u64,
+    /// How many of those sent were promised to be: they live longer than their
+    /// bound.
+    pub zero_promised: u64,
     /// See `zero_sent`.
     pub zero_expired: u64,
     /// See `zero_sent`.
@@ -220,8 +223,11 @@ impl Watch {
             if left.next_if(|entry| **entry == packet.entry).is_some() {
                 self.zero.push_back(packet);
             } else if sent.take_if(|sent| *sent == packet.entry.packet).is_some() {
+                let wait = packet.wait(now - arrival, book.floor());
+                let lifetime = u64::from(packet.entry.packet.lifetime);
                 self.zero_sent += 1;
-                self.waited(packet.wait(now - arrival, book.floor()));
+                self.zero_promised += u64::from(lifetime > wait.bound());
+                self.waited(wait);
             } else if displaced == Some(packet.entry) {
                 self.zero_displaced += 1;
                 packet.was_not_due("was displaced", now - arrival, book.floor())?;
@@ -300,6 +306,7 @@ mod tests {
             (1, 1_051_000, 3_093_000),
             (2, 1_050_500, 3_091_500),
             (3, 1_050_000, 3_090_000),
+            (4, 1_054_000, 3_102_000),
         ] {
             let floor = Book::new(profile, 0).floor();
             let bound = |above, apart| followed(above, apart).wait(0, floor).bound();

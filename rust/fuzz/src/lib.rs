@@ -9,8 +9,8 @@ mod help;
 
 use help::{
     archive_write, hold, hold_burst, hold_no_state, hold_no_state_burst, hold_write, raw, Call,
-    LogCall, ACCEPTED_MOST, EDGE_COUNTS, EDGE_LIFETIMES, EDGE_ONTIMES, EDGE_PRIORITIES, EDGE_STEPS,
-    TIME_END,
+    LogCall, ACCEPTED_MOST, EDGE_COUNTS, EDGE_LIFETIMES, EDGE_ONTIMES, EDGE_PRIORITIES,
+    EDGE_PROBES, EDGE_STEPS, TIME_END,
 };
 use reference::log::{read, Record, RECORD_BYTES};
 use reference::state::{sound, Admission, Packet, State};
@@ -68,7 +68,7 @@ impl Input<'_> {
 
     /// Any state, often a sound one.
     fn state(&mut self) -> State {
-        let profile = self.of(&[1, 2, 3, 0, 4]);
+        let profile = self.of(&[1, 2, 3, 4, 0, 5]);
         let (way, stamp) = (
             self.of(&[0, 1, 0, 1, 2]),
             self.of(&[0, 1, 1 << 31, u32::MAX]),
@@ -86,6 +86,11 @@ impl Input<'_> {
         state.smoothed = self.of(&[0, 680_000, 1_000_000, 1_000_001]);
         state.haskept = self.byte() % 2 == 1;
         state.kept = self.of(&[0, 400_000, 1_000_000, 1_000_001]);
+        state.latest = match state.profile {
+            4 => self.of(&[0, 620_000, 620_001, 650_000, 1_000_000, 1_000_001]),
+            _ if self.byte() == 255 => self.number(),
+            _ => 0,
+        };
         self.fill_queues(&mut state);
         let state = self.admitted(state);
         self.counted(state)
@@ -156,10 +161,17 @@ impl Input<'_> {
         }
     }
 
-    fn words(&mut self) -> Vec<u64> {
-        let length = self.of(&[16, 15, 17, 0]) % 64;
+    /// A probe count, with words: mostly just enough. The last are zeros where the input is used up.
+    fn words(&mut self) -> (u32, Vec<u64>) {
+        let probes = self.of(&EDGE_PROBES);
+        let enough = probes.div_ceil(64).min(200);
+        let length = match self.byte() {
+            byte @ 224.. => u32::from(byte - 224),
+            0 => enough + 1,
+            _ => enough,
+        };
         let word = |_| u64::from(self.number()) << (self.byte() % 64);
-        (0..length).map(word).collect()
+        (probes, (0..length).map(word).collect())
     }
 
     fn stamp_after(&mut self, last: u32) -> u32 {
@@ -206,12 +218,17 @@ impl Input<'_> {
     fn call(&mut self, last: u32) -> Call {
         let stamp = self.stamp_after(last);
         match self.byte() % 4 {
-            0 => Call::SampleWords {
-                words: self.words(),
-                stamp,
-            },
+            0 => {
+                let (probes, words) = self.words();
+                Call::SampleWords {
+                    probes,
+                    words,
+                    stamp,
+                }
+            }
             1 => Call::SampleCount {
                 busy: self.of(&EDGE_COUNTS),
+                probes: self.of(&EDGE_PROBES),
                 stamp,
             },
             2 => Call::Offer {
@@ -230,7 +247,7 @@ impl Input<'_> {
         let stamp = self.number();
         match self.byte() % 4 {
             0 => LogCall::Make {
-                profile: self.of(&[1, 2, 3, 0, 4, 255, 256, u32::MAX]),
+                profile: self.of(&[1, 2, 3, 4, 0, 5, 255, 256, u32::MAX]),
                 oldway: self.of(&[0, 1, 2, 256, u32::MAX]),
                 stamp,
             },
@@ -302,7 +319,7 @@ fn follow(bytes: &[u8]) {
         } else {
             hold_no_state(&raw(&state), &call, &"fuzz");
             // What was broken stays so: on with a fresh state.
-            state = State::fresh(1 + state.stamp % 3, state.stamp / 3 % 2, state.stamp);
+            state = State::fresh(1 + state.stamp % 4, state.stamp / 4 % 2, state.stamp);
         }
     }
 }

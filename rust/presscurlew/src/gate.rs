@@ -85,7 +85,7 @@ pub struct Offer {
     pub id: u32,
     /// The priority, 0 (highest) to 3.
     pub priority: u32,
-    /// The time on air in µs: at most 1,000, 500 or 4,000, by the profile.
+    /// The time on air in µs: at most 1,000, 500, 4,000 or 4,000, by the profile.
     pub ontime: u32,
     /// How long it may wait, in µs: at most 60,000,000.
     pub lifetime: u32,
@@ -101,7 +101,8 @@ pub enum Answer {
     /// The gate is closed.
     Closed {
         /// The µs after which the packet that is next would go, if no sample and no offer came between and it did not
-        /// expire: at least 1, and at most 1,001,000 in profile 1, 1,000,500 in profile 2 and 1,000,000 in profile 3.
+        /// expire: at least 1, and at most 1,001,000 in profile 1, 1,000,500 in profile 2, 1,000,000 in profile 3 and
+        /// 1,004,000 in profile 4.
         micros: u64,
     },
 }
@@ -143,13 +144,14 @@ impl Offer {
 /// Why a call was refused. A refused call changes nothing, clock and counts included.
 #[derive(Clone, Copy, Debug, PartialEq, Eq, Hash)]
 pub enum Refusal {
-    /// The profile is not 1 to 3. ([`sys::presscurlew_make`] answers this also if `when_full` is above 1.)
+    /// The profile is not 1 to 4. ([`sys::presscurlew_make`] answers this also if `when_full` is above 1.)
     BadProfile = 1,
     /// The step from the last stamp, modulo 2^32, is 2,147,483,648 or more.
     ClockBack = 2,
     /// The running time would pass 10^15 µs, some 31 years.
     ClockEnd = 3,
-    /// Not 16 words, or a bit above bit 39 set in the last, or a busy count above 1,000.
+    /// Not 1 to 12,500 probes, not just enough words, a bit of the last word set that is no probe, or more busy than
+    /// probes.
     BadSample = 4,
     /// The priority is above 3.
     BadPriority = 5,
@@ -228,10 +230,10 @@ impl Refusal {
 
     const fn reason(self) -> &'static str {
         match self {
-            Refusal::BadProfile => "the profile is not 1 to 3",
+            Refusal::BadProfile => "the profile is not 1 to 4",
             Refusal::ClockBack => "the clock went back",
             Refusal::ClockEnd => "the running time would pass 10^15 µs",
-            Refusal::BadSample => "it is not a sample of 1,000 probes",
+            Refusal::BadSample => "it is not a sample of 1 to 12,500 probes",
             Refusal::BadPriority => "the priority is above 3",
             Refusal::BadOnTime => "the profile does not allow this on-time",
             Refusal::BadLifetime => "the lifetime is 0 or above 60,000,000",
@@ -275,7 +277,7 @@ fn taken(answer: u8) -> Result<(), Refusal> {
 }
 
 impl Gate {
-    /// A fresh gate of profile 1 to 3, at the radio's stamp. What it does when a queue is full is fixed here.
+    /// A fresh gate of profile 1 to 4, at the radio's stamp. What it does when a queue is full is fixed here.
     ///
     /// # Errors
     ///
@@ -286,24 +288,46 @@ impl Gate {
         Ok(Gate { state: turn.state })
     }
 
-    /// A sample of the channel by words: 1,000 probes in 16 words. Probe k is bit k mod 64 of word k / 64, 1 if
-    /// the channel was busy; the bits above bit 39 of the last word are 0.
+    /// A sample of the channel by words: 1 to 12,500 probes in just enough words. Probe k is bit k mod 64 of word
+    /// k / 64, 1 if the channel was busy; the bits of the last word that are no probes are 0.
+    ///
+    /// The load, in parts per 1,000,000, is 1,000,000 × busy / probes, rounded down.
+    ///
+    /// ```
+    /// use presscurlew::{Gate, Refusal, WhenFull};
+    ///
+    /// // The new radio probes each 8 µs: 12,500 probes in 100 ms, in 196 words. Here the first 7,751 are busy.
+    /// let mut words = [0; 196];
+    /// for k in 0..7_751 {
+    ///     words[k / 64] |= 1 << (k % 64);
+    /// }
+    /// let mut gate = Gate::new(3, WhenFull::DropOldest, 0)?;
+    /// gate.sample_words(12_500, &words, 100_000)?;
+    /// assert_eq!(gate.state().tuning.kept, 620_080);
+    ///
+    /// // Not just enough words, and a probe too many.
+    /// assert_eq!(gate.sample_words(12_500, &words[1..], 200_000), Err(Refusal::BadSample));
+    /// assert_eq!(gate.sample_count(12_501, 12_500, 200_000), Err(Refusal::BadSample));
+    /// # Ok::<(), Refusal>(())
+    /// ```
     ///
     /// # Errors
     ///
     /// [`Refusal::ClockBack`], [`Refusal::ClockEnd`], [`Refusal::BadSample`].
-    pub fn sample_words(&mut self, words: &[u64], stamp: u32) -> Result<(), Refusal> {
-        self.take(sys::sample_words(self.state, words, stamp))?;
+    pub fn sample_words(&mut self, probes: u32, words: &[u64], stamp: u32) -> Result<(), Refusal> {
+        self.take(sys::sample_words(self.state, probes, words, stamp))?;
         Ok(())
     }
 
-    /// A sample of the channel by its busy count: how many of 1,000 probes were busy.
+    /// A sample of the channel by its busy count: how many of 1 to 12,500 probes were busy.
     ///
     /// # Errors
     ///
     /// [`Refusal::ClockBack`], [`Refusal::ClockEnd`], [`Refusal::BadSample`].
-    pub fn sample_count(&mut self, busy: u32, stamp: u32) -> Result<(), Refusal> {
-        self.take(sys::presscurlew_sample_count(self.state, busy, stamp))?;
+    pub fn sample_count(&mut self, busy: u32, probes: u32, stamp: u32) -> Result<(), Refusal> {
+        self.take(sys::presscurlew_sample_count(
+            self.state, busy, probes, stamp,
+        ))?;
         Ok(())
     }
 
@@ -366,7 +390,7 @@ impl Gate {
 
     /// Whether a packet may go, and which: the oldest of the lowest-numbered queue that has one.
     ///
-    /// After an admission the gate is closed until the wait ([`crate::rules::wait`]) is over. In profiles 1 and 2 the
+    /// After an admission the gate is closed until the wait ([`crate::rules::wait`]) is over. In profiles 1, 2 and 4 the
     /// wait starts when the packet is off the air, its on-time after the admission; in profile 3 with the admission.
     ///
     /// It is closed for a packet, too, with which more than 30,000 µs would be admitted in the 1,000,000 µs up to and
@@ -379,7 +403,7 @@ impl Gate {
     /// // A quiet channel brings profile 3 to its highest duty: a packet of 4,000 µs may go each 133,334 µs.
     /// let mut gate = Gate::new(3, WhenFull::DropOldest, 0)?;
     /// for _ in 0..1_000 {
-    ///     gate.sample_count(0, 0)?;
+    ///     gate.sample_count(0, 1_000, 0)?;
     /// }
     /// for id in 0..7 {
     ///     let stamp = id * 133_334;
@@ -436,7 +460,7 @@ impl Gate {
     ///
     /// ```
     /// let mut gate = presscurlew::Gate::new(1, presscurlew::WhenFull::DropOldest, 0)?;
-    /// gate.sample_count(700, 100_000)?;
+    /// gate.sample_count(700, 1_000, 100_000)?;
     /// assert_eq!(gate.state().tuning.level, 1);
     /// # Ok::<(), presscurlew::Refusal>(())
     /// ```

@@ -41,10 +41,11 @@ use crate::sys::{self, RECORD_BYTES};
 /// [`RecordError::Log`] and does nothing. Of what is in the log, only the last call, or some of the last burst, may not
 /// have been made. A host that has to go on without a log takes the gate out ([`Recorder::into_parts`]).
 ///
-/// **The call that is made is the one in the log**, to the last number. A sample by words is made by its busy count,
-/// which is all that the gate looks at. What fits no record the gate refuses, in any state; the recorder then records,
-/// and makes, a call that fits and is refused in the same way: profile 255, priority 255 or on-time 65,535 for one above
-/// it, and the busy count 4,294,967,295 for words that are no sample.
+/// **The call that is made is the one in the log**, to the last number. A sample by words is made by its busy count and
+/// its probe count, which are all that the gate looks at. What fits no record the gate refuses, in any state; the
+/// recorder then records, and makes, a call that fits and is refused in the same way: profile 255, priority 255 or
+/// on-time 65,535 for one above it, and 4,294,967,295 busy of 1,000 probes for words that are no sample and for a count
+/// of 0 probes.
 #[derive(Debug)]
 pub struct Recorder<W> {
     gate: Gate,
@@ -141,7 +142,7 @@ impl<W: Write> Recorder<W> {
     ) -> Result<Recorder<W>, RecordError> {
         let failed = false;
         let mut log = Log { sink, failed };
-        // Any profile above 3 is refused, so that the most that fits stands for those above it.
+        // Any profile above 4 is refused, so that the most that fits stands for those above it.
         let profile = profile.min(u8::MAX.into());
         let way = when_full as u32;
         log.record(|place| sys::write_make(profile, way, stamp, place, 0))?;
@@ -149,31 +150,56 @@ impl<W: Write> Recorder<W> {
         Ok(Recorder { gate, log })
     }
 
-    /// Records a sample by words, by its busy count, and then is [`Gate::sample_words`].
+    /// Records a sample by words, by its busy count of so many probes, and then is [`Gate::sample_words`].
+    ///
+    /// ```
+    /// use presscurlew::{Recorder, WhenFull};
+    ///
+    /// let mut log = Vec::new();
+    /// let mut gate = Recorder::new(1, WhenFull::DropOldest, 0, &mut log)?;
+    /// gate.sample_words(65, &[7, 1], 100)?; // four busy of 65 probes
+    /// gate.sample_count(400, 1_000, 200)?; // of 1,000 probes the record says 0
+    /// assert_eq!(log[16..32], [1, 0, 0, 0, 65, 0, 0, 0, 4, 0, 0, 0, 100, 0, 0, 0]);
+    /// assert_eq!(log[32..], [1, 0, 0, 0, 0, 0, 0, 0, 144, 1, 0, 0, 200, 0, 0, 0]);
+    /// # Ok::<(), presscurlew::RecordError>(())
+    /// ```
     ///
     /// # Errors
     ///
     /// [`RecordError::Log`], or the refusals of the gate.
-    pub fn sample_words(&mut self, words: &[u64], stamp: u32) -> Result<(), RecordError> {
+    pub fn sample_words(
+        &mut self,
+        probes: u32,
+        words: &[u64],
+        stamp: u32,
+    ) -> Result<(), RecordError> {
         let mut record = [0; RECORD_BYTES];
-        if sys::write_sample_words(words, stamp, &mut record, 0) != 0 {
-            // No sample: neither is this.
-            return self.sample_count(u32::MAX, stamp);
+        if sys::write_sample_words(probes, words, stamp, &mut record, 0) != 0 {
+            return self.no_sample(stamp);
         }
         self.log.put(&record)?;
         // By the count, so that the words are counted once.
-        Ok(self.gate.sample_count(busy_in(record), stamp)?)
+        Ok(self.gate.sample_count(busy_in(record), probes, stamp)?)
     }
 
-    /// Records a sample by its busy count, and then is [`Gate::sample_count`].
+    /// Records a sample by its busy count of so many probes, and then is [`Gate::sample_count`].
     ///
     /// # Errors
     ///
     /// [`RecordError::Log`], or the refusals of the gate.
-    pub fn sample_count(&mut self, busy: u32, stamp: u32) -> Result<(), RecordError> {
+    pub fn sample_count(&mut self, busy: u32, probes: u32, stamp: u32) -> Result<(), RecordError> {
+        if probes == 0 {
+            // A record's 0 means 1,000.
+            return self.no_sample(stamp);
+        }
         self.log
-            .record(|place| sys::write_sample_count(busy, stamp, place, 0))?;
-        Ok(self.gate.sample_count(busy, stamp)?)
+            .record(|place| sys::write_sample_count(busy, probes, stamp, place, 0))?;
+        Ok(self.gate.sample_count(busy, probes, stamp)?)
+    }
+
+    /// A call that is no sample, for those that no record has room for: all are refused alike.
+    fn no_sample(&mut self, stamp: u32) -> Result<(), RecordError> {
+        self.sample_count(u32::MAX, 1_000, stamp)
     }
 
     /// Records an offer, and then is [`Gate::offer`].
@@ -243,7 +269,7 @@ impl<W> Recorder<W> {
     /// // Room for three calls.
     /// let mut disk = [0; 48];
     /// let mut gate = Recorder::new(1, WhenFull::DropOldest, 0, &mut disk[..])?;
-    /// gate.sample_count(700, 100)?;
+    /// gate.sample_count(700, 1_000, 100)?;
     /// gate.poll(200)?;
     /// assert!(matches!(gate.poll(300), Err(RecordError::Log(_))));
     ///

@@ -9,8 +9,11 @@
 //! // A load of 60 % wants level 3 in profile 1, and one sample moves the level by one.
 //! assert_eq!(rules::wanted_level(1, 600_000), Ok(3));
 //! assert_eq!(rules::level_step(1, 600_000, 0), Ok(1));
-//! assert_eq!(rules::wait(1, 1, 600_000, 400), Ok(200_000));
+//! assert_eq!(rules::wait(1, 1, 600_000, 400, 0), Ok(200_000));
 //! assert_eq!(rules::wanted_level(3, 600_000), Err(RuleRefusal::Profile));
+//!
+//! // In profile 4 the wait goes by the latest load: 457 times the on-time at 70 %.
+//! assert_eq!(rules::wait(4, 0, 600_000, 400, 700_000), Ok(182_800));
 //! ```
 
 use std::error::Error;
@@ -125,16 +128,23 @@ pub fn duty_update(
 
 /// The wait in µs before the next admission, where `ontime` is that of the packet admitted last.
 ///
-/// In profiles 1 and 2 it goes by the level and runs from the end of that packet, `ontime` after its admission; the
-/// on-time is no part of the answer. In profile 3 it goes by duty and on-time and runs from the admission. All are
-/// judged, used or not.
+/// In profiles 1 and 2 it goes by the level, in profile 3 by duty and on-time, in profile 4 by the on-time and the load
+/// of the latest sample. It runs from the end of that packet, `ontime` after its admission, which is not added to the
+/// answer; in profile 3 it runs from the admission. All are judged, used or not.
 ///
 /// # Errors
 ///
-/// [`RuleRefusal::Profile`] if `profile` is not 1 to 3; [`RuleRefusal::LevelOrDuty`] if `level` is above
-/// 4 or `duty` is not 600,000 to 30,000,000; [`RuleRefusal::OnTime`] if the profile does not allow
-/// `ontime` (1 to 1,000, 1 to 500, 1 to 4,000 µs).
-pub fn wait(profile: u32, level: u32, duty: u32, ontime: u32) -> Result<u32, RuleRefusal> {
-    let answer = sys::presscurlew_wait(profile, level, duty, ontime);
+/// [`RuleRefusal::Profile`] if `profile` is not 1 to 4; [`RuleRefusal::LevelOrDuty`] if `level` is above
+/// 4 or `duty` is not 600,000 to 30,000,000; [`RuleRefusal::Load`] if `load` is above 1,000,000;
+/// [`RuleRefusal::OnTime`] if the profile does not allow `ontime` (1 to 1,000, 1 to 500, 1 to 4,000 and again
+/// 1 to 4,000 µs).
+pub fn wait(
+    profile: u32,
+    level: u32,
+    duty: u32,
+    ontime: u32,
+    load: u32,
+) -> Result<u32, RuleRefusal> {
+    let answer = sys::presscurlew_wait(profile, level, duty, ontime, load);
     answered(answer.refusal, answer.wait)
 }

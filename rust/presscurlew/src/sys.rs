@@ -8,7 +8,8 @@
 //! The writers ([`write_make`] to [`write_poll`]) write a call's record for the log, and leave the call itself to the
 //! host; [`crate::Recorder`] does both.
 //!
-//! The rules' answers have their refusal number first, 0 for none. A refusal's other numbers are 0.
+//! The rules' answers, and that of the floating update, have their refusal number first, 0 for none. A refusal's other
+//! numbers are 0.
 //!
 //! ```
 //! use presscurlew::sys;
@@ -58,7 +59,19 @@ pub struct WaitAnswer {
     pub wait: u32,
 }
 
-// Safe to call: the archive's functions answer any numbers at all, and touch no memory of the caller's.
+/// What the floating update answers.
+#[repr(C)]
+#[derive(Clone, Copy, Debug, PartialEq)]
+pub struct FloatAnswer {
+    /// 0, or 14, the number of the refusal.
+    pub refusal: u32,
+    /// The smoothed load after the update; +0.0 with a refusal.
+    pub smoothed: f64,
+    /// The duty after the update; +0.0 with a refusal.
+    pub duty: f64,
+}
+
+// Safe to call: the archives' functions answer any numbers at all, and touch no memory of the caller's.
 #[allow(unsafe_code)]
 unsafe extern "C" {
     /// The level that a load wants, in profile 1 or 2.
@@ -75,8 +88,23 @@ unsafe extern "C" {
         new: u32,
     ) -> DutyAnswer;
 
-    /// The wait after a packet of this on-time: from its end in profiles 1 and 2, from its start in profile 3.
-    pub safe fn presscurlew_wait(profile: u32, level: u32, duty: u32, ontime: u32) -> WaitAnswer;
+    /// The wait after a packet of this on-time, the latest sample having this load: from the packet's end in profiles
+    /// 1, 2 and 4, from its start in profile 3.
+    pub safe fn presscurlew_wait(
+        profile: u32,
+        level: u32,
+        duty: u32,
+        ontime: u32,
+        load: u32,
+    ) -> WaitAnswer;
+
+    /// Profile 3's smoothed load and duty after a pair of samples, in f64.
+    pub safe fn presscurlew_float_update(
+        duty: f64,
+        smoothed: f64,
+        kept: f64,
+        new: f64,
+    ) -> FloatAnswer;
 }
 
 /// A packet that waits. An unused slot is all zero.
@@ -179,6 +207,8 @@ pub struct Tuning {
     pub kept: u32,
     /// 1 while a sample is kept, else 0.
     pub pairing: u32,
+    /// In profile 4 the load of the latest sample, in parts per 1,000,000; 0 before any, and in the other profiles.
+    pub latest: u32,
 }
 
 /// The state of one gate. Any values at all may stand in it: the calls refuse a state that is not sound.
@@ -197,7 +227,7 @@ pub struct State {
     pub counts: Counts,
     /// What samples steer.
     pub tuning: Tuning,
-    /// The profile, 1 to 3; no call changes it.
+    /// The profile, 1 to 4; no call changes it.
     pub profile: u32,
     /// [`DROP_OLDEST`] or [`REFUSE_NEW`]; no call changes it.
     pub oldway: u32,
@@ -255,6 +285,11 @@ pub struct BurstTurn {
     pub number: u32,
 }
 
+/// The most probes that a sample has.
+pub const MOST_PROBES: u32 = 12_500;
+/// The words of a sample of [`MOST_PROBES`] probes.
+pub const MOST_WORDS: usize = 196;
+
 /// The bytes of a record, of a burst or of the log.
 pub const RECORD_BYTES: usize = 16;
 /// The kind of a record that is an offer, its first byte.
@@ -273,13 +308,14 @@ unsafe extern "C" {
     /// `words` points to `count` words that can be read; with `count` 0 it may be null.
     pub fn presscurlew_sample_words(
         state: State,
+        probes: u32,
         words: *const u64,
         count: usize,
         stamp: u32,
     ) -> Turn;
 
-    /// A sample by its busy count.
-    pub safe fn presscurlew_sample_count(state: State, busy: u32, stamp: u32) -> Turn;
+    /// A sample by its busy count of so many probes.
+    pub safe fn presscurlew_sample_count(state: State, busy: u32, probes: u32, stamp: u32) -> Turn;
 
     /// A packet to send.
     pub safe fn presscurlew_offer(
@@ -329,6 +365,7 @@ unsafe extern "C" {
     /// `words` points to `count` words that can be read, and `log` to `bytes` bytes that can be written, none of which
     /// is a byte of the words. With a count of 0 its pointer may be null.
     pub fn presscurlew_write_sample_words(
+        probes: u32,
         words: *const u64,
         count: usize,
         stamp: u32,
@@ -344,6 +381,7 @@ unsafe extern "C" {
     /// `log` points to `bytes` bytes that can be written; with `bytes` 0 it may be null.
     pub fn presscurlew_write_sample_count(
         busy: u32,
+        probes: u32,
         stamp: u32,
         log: *mut u8,
         bytes: usize,
@@ -374,11 +412,11 @@ unsafe extern "C" {
     pub fn presscurlew_write_poll(stamp: u32, log: *mut u8, bytes: usize, at: usize) -> u32;
 }
 
-/// A sample by words, of a slice.
+/// A sample by words, of a slice: 1 to [`MOST_PROBES`] probes, 64 in a word.
 #[allow(unsafe_code)]
-pub fn sample_words(state: State, words: &[u64], stamp: u32) -> Turn {
+pub fn sample_words(state: State, probes: u32, words: &[u64], stamp: u32) -> Turn {
     // SAFETY: the slice has `words.len()` words, and the archive only reads them.
-    unsafe { presscurlew_sample_words(state, words.as_ptr(), words.len(), stamp) }
+    unsafe { presscurlew_sample_words(state, probes, words.as_ptr(), words.len(), stamp) }
 }
 
 /// Many offers in one call, of slices: 16 bytes a record, as [`crate::Offer::record`] gives them, and one byte for each
@@ -425,35 +463,54 @@ pub fn write_make(profile: u32, when_full: u32, stamp: u32, log: &mut [u8], at: 
     unsafe { presscurlew_write_make(profile, when_full, stamp, log.as_mut_ptr(), log.len(), at) }
 }
 
-/// Writes the record of a sample by words, which is that of its busy count: 16 bytes at `at` of the log. The answer is
-/// 0, or 4 for a bad sample, else 12 if there are no 16 bytes at `at`; a refusal writes nothing.
+/// Writes the record of a sample by words, which is that of its busy count of so many probes: 16 bytes at `at` of the
+/// log. The answer is 0, or 4 for a bad sample, else 12 if there are no 16 bytes at `at`; a refusal writes nothing.
 ///
 /// ```
 /// use presscurlew::sys;
 ///
-/// let mut words = [0; 16];
+/// let mut words = [0; 196];
 /// words[3] = 0b1011;
 /// let [mut one, mut other] = [[255; 16]; 2];
-/// assert_eq!(sys::write_sample_words(&words, 77, &mut one, 0), 0);
-/// assert_eq!(sys::write_sample_count(3, 77, &mut other, 0), 0);
+/// assert_eq!(sys::write_sample_words(12_500, &words, 77, &mut one, 0), 0);
+/// assert_eq!(sys::write_sample_count(3, 12_500, 77, &mut other, 0), 0);
 /// assert_eq!(one, other);
-/// assert_eq!(sys::write_sample_words(&words[1..], 77, &mut one, 0), 4);
+/// assert_eq!(sys::write_sample_words(12_500, &words[1..], 77, &mut one, 0), 4);
 /// ```
 #[allow(unsafe_code)]
-pub fn write_sample_words(words: &[u64], stamp: u32, log: &mut [u8], at: usize) -> u32 {
-    let (count, bytes) = (words.len(), log.len());
+pub fn write_sample_words(
+    probes: u32,
+    words: &[u64],
+    stamp: u32,
+    log: &mut [u8],
+    at: usize,
+) -> u32 {
+    let (first, count) = (words.as_ptr(), words.len());
+    let (place, bytes) = (log.as_mut_ptr(), log.len());
     // SAFETY: the slices have so many words and bytes, and one that can be written lies apart from all others.
-    unsafe {
-        presscurlew_write_sample_words(words.as_ptr(), count, stamp, log.as_mut_ptr(), bytes, at)
-    }
+    unsafe { presscurlew_write_sample_words(probes, first, count, stamp, place, bytes, at) }
 }
 
-/// Writes the record of a sample by its busy count, any at all: 16 bytes at `at` of the log. The answer is 0, or 12 if
-/// there are no 16 bytes at `at`; then nothing is written.
+/// Writes the record of a sample by its busy count, any at all, of any number of probes but 0: 16 bytes at `at` of the
+/// log. The answer is 0, or 4 for 0 probes, else 12 if there are no 16 bytes at `at`; a refusal writes nothing.
+///
+/// Of 1,000 probes the record says 0.
+///
+/// ```
+/// use presscurlew::sys;
+///
+/// let mut log = [255; 16];
+/// assert_eq!(sys::write_sample_count(3, 999, 77, &mut log, 0), 0);
+/// assert_eq!(log, [1, 0, 0, 0, 231, 3, 0, 0, 3, 0, 0, 0, 77, 0, 0, 0]);
+/// assert_eq!(sys::write_sample_count(3, 1_000, 77, &mut log, 0), 0);
+/// assert_eq!(log, [1, 0, 0, 0, 0, 0, 0, 0, 3, 0, 0, 0, 77, 0, 0, 0]);
+/// assert_eq!(sys::write_sample_count(3, 0, 77, &mut log, 0), 4);
+/// ```
 #[allow(unsafe_code)]
-pub fn write_sample_count(busy: u32, stamp: u32, log: &mut [u8], at: usize) -> u32 {
-    // SAFETY: the slice has `log.len()` bytes.
-    unsafe { presscurlew_write_sample_count(busy, stamp, log.as_mut_ptr(), log.len(), at) }
+pub fn write_sample_count(busy: u32, probes: u32, stamp: u32, log: &mut [u8], at: usize) -> u32 {
+    let (place, bytes) = (log.as_mut_ptr(), log.len());
+    // SAFETY: the slice has so many bytes.
+    unsafe { presscurlew_write_sample_count(busy, probes, stamp, place, bytes, at) }
 }
 
 /// Writes an offer's record: 16 bytes at `at` of the log. The answer is 0, or 5 if the priority is above 255, else 6 if
@@ -501,10 +558,12 @@ mod tests {
     #[test]
     fn no_words_may_be_a_null_pointer() {
         let fresh = presscurlew_make(1, DROP_OLDEST, 0).state;
-        // SAFETY: with a count of 0 nothing is read.
-        let turn = unsafe { presscurlew_sample_words(fresh, ptr::null(), 0, 0) };
-        assert_eq!((turn.reply.kind, turn.reply.number), (REFUSED, 4));
-        assert_eq!(turn.state, fresh);
+        for probes in [0, 1, 64, u32::MAX] {
+            // SAFETY: with a count of 0 nothing is read.
+            let turn = unsafe { presscurlew_sample_words(fresh, probes, ptr::null(), 0, 0) };
+            assert_eq!((turn.reply.kind, turn.reply.number), (REFUSED, 4));
+            assert_eq!(turn.state, fresh);
+        }
     }
 
     #[test]
@@ -531,9 +590,9 @@ mod tests {
             let numbers = unsafe {
                 [
                     presscurlew_write_make(1, 0, 0, none, 0, at),
-                    presscurlew_write_sample_words(ptr::null(), 0, 0, none, 0, at),
-                    presscurlew_write_sample_words([0; 16].as_ptr(), 16, 0, none, 0, at),
-                    presscurlew_write_sample_count(0, 0, none, 0, at),
+                    presscurlew_write_sample_words(0, ptr::null(), 0, 0, none, 0, at),
+                    presscurlew_write_sample_words(999, [0; 16].as_ptr(), 16, 0, none, 0, at),
+                    presscurlew_write_sample_count(0, 1, 0, none, 0, at),
                     presscurlew_write_offer(0, 0, 0, 0, 0, none, 0, at),
                     presscurlew_write_poll(0, none, 0, at),
                 ]

@@ -11,7 +11,7 @@ use std::io::{self, ErrorKind, Write};
 use std::mem::discriminant;
 use std::panic::{catch_unwind, AssertUnwindSafe};
 
-use help::{edge_or, gates, random_words, EDGE_COUNTS, EDGE_LIFETIMES, EDGE_STEPS, WHEN_FULL};
+use help::{edge_or, gates, random_count, random_words, EDGE_LIFETIMES, EDGE_STEPS, WHEN_FULL};
 use presscurlew::sys::RECORD_BYTES;
 use presscurlew::{Answer, Gate, Offer, RecordError, Recorder, Refusal, WhenFull};
 use program::replayed;
@@ -20,8 +20,8 @@ use reference::rng::Rng;
 /// What a host does in one call.
 #[derive(Clone, Debug)]
 enum Deed {
-    Words(Vec<u64>, u32),
-    Count(u32, u32),
+    Words((u32, Vec<u64>), u32),
+    Count((u32, u32), u32),
     Offer(Offer, u32),
     Burst(Vec<(Offer, u32)>),
     Poll(u32),
@@ -82,7 +82,7 @@ fn any_deed(rng: &mut Rng, last: u32) -> Deed {
     let stamp = stamp_after(rng, last);
     match rng.below(10) {
         0 => Deed::Words(random_words(rng), stamp),
-        1 => Deed::Count(edge_or(rng, &EDGE_COUNTS, 1_000), stamp),
+        1 => Deed::Count(random_count(rng), stamp),
         2..=4 => Deed::Offer(any_offer(rng), stamp),
         5 => {
             let many = rng.below(9);
@@ -120,8 +120,12 @@ fn of_gate<T>(answer: Result<T, RecordError>) -> io::Result<Result<T, Refusal>> 
 /// The lines of a deed on a recorder.
 fn recorded<W: Write>(gate: &mut Recorder<W>, deed: &Deed) -> io::Result<Vec<String>> {
     Ok(match deed {
-        Deed::Words(words, stamp) => vec![taken(of_gate(gate.sample_words(words, *stamp))?)],
-        Deed::Count(busy, stamp) => vec![taken(of_gate(gate.sample_count(*busy, *stamp))?)],
+        Deed::Words((probes, words), stamp) => {
+            vec![taken(of_gate(gate.sample_words(*probes, words, *stamp))?)]
+        }
+        Deed::Count((busy, probes), stamp) => {
+            vec![taken(of_gate(gate.sample_count(*busy, *probes, *stamp))?)]
+        }
         Deed::Offer(offer, stamp) => vec![taken(of_gate(gate.offer(*offer, *stamp))?)],
         Deed::Burst(offers) => gate.offer_burst(offers)?.into_iter().map(taken).collect(),
         Deed::Poll(stamp) => vec![polled(of_gate(gate.poll(*stamp))?)],
@@ -131,8 +135,12 @@ fn recorded<W: Write>(gate: &mut Recorder<W>, deed: &Deed) -> io::Result<Vec<Str
 /// The same on a gate without a log.
 fn done(gate: &mut Gate, deed: &Deed) -> Vec<String> {
     match deed {
-        Deed::Words(words, stamp) => vec![taken(gate.sample_words(words, *stamp))],
-        Deed::Count(busy, stamp) => vec![taken(gate.sample_count(*busy, *stamp))],
+        Deed::Words((probes, words), stamp) => {
+            vec![taken(gate.sample_words(*probes, words, *stamp))]
+        }
+        Deed::Count((busy, probes), stamp) => {
+            vec![taken(gate.sample_count(*busy, *probes, *stamp))]
+        }
         Deed::Offer(offer, stamp) => vec![taken(gate.offer(*offer, *stamp))],
         Deed::Burst(offers) => gate.offer_burst(offers).into_iter().map(taken).collect(),
         Deed::Poll(stamp) => vec![polled(gate.poll(*stamp))],
@@ -190,8 +198,8 @@ fn hold_seen(lines: &[String], way: WhenFull, origin: &str) {
 
 /// Calls of which no record has room for some number, and what a gate of profile 1 refuses them with.
 fn unfit(stamp: u32) -> Vec<(Deed, Vec<u32>)> {
-    let mut stray = vec![0; 16];
-    stray[15] = 1 << 40;
+    let mut stray = vec![0; 196];
+    stray[195] = 1 << 20;
     let wide = |priority, ontime| Offer {
         id: 7,
         priority,
@@ -208,9 +216,12 @@ fn unfit(stamp: u32) -> Vec<(Deed, Vec<u32>)> {
     ];
     let burst = offers.map(|(offer, _)| (offer, stamp)).to_vec();
     let mut deeds = vec![
-        (Deed::Words(vec![], stamp), vec![4]),
-        (Deed::Words(vec![0; 17], stamp), vec![4]),
-        (Deed::Words(stray, stamp), vec![4]),
+        (Deed::Words((0, vec![]), stamp), vec![4]),
+        (Deed::Words((1_000, vec![0; 17]), stamp), vec![4]),
+        (Deed::Words((12_500, stray), stamp), vec![4]),
+        (Deed::Words((12_501, vec![0; 196]), stamp), vec![4]),
+        (Deed::Count((0, 0), stamp), vec![4]),
+        (Deed::Count((u32::MAX, 0), stamp), vec![4]),
         (
             Deed::Burst(burst),
             offers.map(|(_, number)| number).to_vec(),
@@ -244,7 +255,7 @@ fn what_does_not_fit_is_refused_alike() {
 /// A make that is refused is in the log, whatever the profile, and is refused when it is played.
 #[test]
 fn a_refused_make_is_recorded() {
-    for profile in [0, 4, 77, 255, 256, 257, 65_537, u32::MAX] {
+    for profile in [0, 5, 77, 255, 256, 257, 65_537, u32::MAX] {
         for way in WHEN_FULL {
             let mut log = Vec::new();
             let made = Recorder::new(profile, way, 9, &mut log);

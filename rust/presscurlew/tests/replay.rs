@@ -93,11 +93,14 @@ fn record(rng: &mut Rng, stamp: &mut u32) -> Record {
         rng.below(2) as u32 // the way of a make
     } else if rng.one_in(30) {
         rng.pick(&lifetimes)
+    } else if kind == 1 {
+        probes(rng)
     } else {
         1 + rng.below(3_000_000) as u32
     };
     let id = if kind == 1 && !rng.one_in(30) {
-        rng.below(1_002) as u32
+        let most = if lifetime == 0 { 1_000 } else { lifetime };
+        rng.below(u64::from(most) + 2) as u32
     } else {
         rng.next_u32()
     };
@@ -111,6 +114,15 @@ fn record(rng: &mut Rng, stamp: &mut u32) -> Record {
     }
 }
 
+/// The probe count of a sample: mostly good, 0 for 1,000.
+fn probes(rng: &mut Rng) -> u32 {
+    match rng.below(4) {
+        0 => 0,
+        1 => rng.pick(&[1, 3, 64, 65, 999, 1_000, 1_001, 12_499, 12_500, 12_501]),
+        _ => rng.below(12_520) as u32,
+    }
+}
+
 fn bytes(records: &[Record]) -> Vec<u8> {
     records.iter().flat_map(Record::to_bytes).collect()
 }
@@ -118,7 +130,7 @@ fn bytes(records: &[Record]) -> Vec<u8> {
 fn run(seed: u64, count: usize) -> Vec<u8> {
     let mut rng = Rng::new(seed);
     let mut stamp = rng.next_u32();
-    let mut records = vec![make(1 + rng.below(3) as u8, rng.below(2) as u32, stamp)];
+    let mut records = vec![make(1 + rng.below(4) as u8, rng.below(2) as u32, stamp)];
     while records.len() < count {
         records.push(record(&mut rng, &mut stamp));
     }
@@ -191,11 +203,43 @@ fn makes_again_and_refused_makes() {
     for turn in 0..20_000 {
         if turn % 20 == 0 {
             let way = rng.pick(&[0, 0, 0, 1, 1, 1, 2, 256, 1 << 31]);
-            records.push(make(rng.below(6) as u8, way, stamp));
+            records.push(make(rng.below(7) as u8, way, stamp));
         }
         records.push(record(&mut rng, &mut stamp));
     }
     compare("makes in mid-log, seed 51", &bytes(&records), 1 << 16);
+}
+
+/// Samples of every probe count, 0 for 1,000 among them, with what they do to the wait: two that count, an offer and a
+/// poll after each of four busy counts.
+#[test]
+fn every_probe_count() {
+    for profile in 1..=4 {
+        let mut stamp = 0;
+        let mut records = vec![make(profile, 0, stamp)];
+        for probes in (0..=12_600).chain([1 << 16, (1 << 16) + 1_000, 1 << 31, u32::MAX]) {
+            for busy in [0, 1, probes, probes.wrapping_add(1)] {
+                stamp += 50;
+                let sample = Record {
+                    kind: 1,
+                    lifetime: probes,
+                    id: busy,
+                    ..make(0, 0, stamp)
+                };
+                let offer = Record {
+                    kind: 2,
+                    priority: 1,
+                    ontime: 400,
+                    lifetime: 3_000_000,
+                    id: probes,
+                    stamp,
+                };
+                records.extend([sample, sample, offer, poll(stamp)]);
+            }
+        }
+        let name = format!("every probe count, profile {profile}");
+        compare(&name, &bytes(&records), 1 << 16);
+    }
 }
 
 /// Queues that are full, in each way: twelve offers of each priority, then polls until nothing waits.
@@ -203,7 +247,7 @@ fn makes_again_and_refused_makes() {
 fn full_queues() {
     let mut records = Vec::new();
     for way in [0, 1, 2, 255, 256, 1 << 16, u32::MAX] {
-        for profile in 0..5 {
+        for profile in 0..6 {
             records.push(make(profile, way, 0));
             let offer = |id| Record {
                 kind: 2,

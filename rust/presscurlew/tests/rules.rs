@@ -132,17 +132,17 @@ fn hold_duty_update(numbers: [u32; 4], origin: &dyn std::fmt::Display) {
     assert_eq!(safe, expected, "duty update of {numbers:?}, {origin}");
 }
 
-fn hold_wait(numbers: [u32; 4], origin: &dyn std::fmt::Display) {
-    let [profile, level, duty, ontime] = numbers;
-    let expected = ccalls::wait(profile, level, duty, ontime);
+fn hold_wait(numbers: [u32; 5], origin: &dyn std::fmt::Display) {
+    let [profile, level, duty, ontime, load] = numbers;
+    let expected = ccalls::wait(profile, level, duty, ontime, load);
     let expected = (expected.refusal, expected.wait);
-    let got = sys::presscurlew_wait(profile, level, duty, ontime);
+    let got = sys::presscurlew_wait(profile, level, duty, ontime, load);
     assert_eq!(
         (got.refusal, got.wait),
         expected,
         "wait of {numbers:?}, {origin}"
     );
-    let safe = flat(rules::wait(profile, level, duty, ontime));
+    let safe = flat(rules::wait(profile, level, duty, ontime, load));
     assert_eq!(safe, expected, "wait of {numbers:?}, {origin}");
 }
 
@@ -203,12 +203,14 @@ fn duty_update_on_ten_million_random_quadruples() {
     }
 }
 
-/// The wait for every on-time, in every profile and at every level.
+/// The wait for every on-time, in every profile and at every level, where the channel was calm, loud and no load at all.
 fn hold_waits_at(duty: u32, origin: &dyn std::fmt::Display) {
     for profile in PROFILES {
         for level in LEVELS {
-            for ontime in (0..=MOST_ONTIME + 1).chain([1 << 31, u32::MAX]) {
-                hold_wait([profile, level, duty, ontime], origin);
+            for load in [0, 650_000, FULL_LOAD + 1] {
+                for ontime in (0..=MOST_ONTIME + 1).chain([1 << 31, u32::MAX]) {
+                    hold_wait([profile, level, duty, ontime, load], origin);
+                }
             }
         }
     }
@@ -241,9 +243,9 @@ fn wait_of_every_ontime_beside_its_limits() {
         for quotient in [24_999, 25_000, 25_001, 999_999, 1_000_000, 1_000_001] {
             let exact = (spread / quotient) as u32;
             for duty in exact.saturating_sub(2)..=exact + 2 {
-                hold_wait([3, 0, duty, ontime], &"beside a limit of the wait");
+                hold_wait([3, 0, duty, ontime, 0], &"beside a limit of the wait");
                 if (LEAST_DUTY..=MOST_DUTY).contains(&duty) {
-                    held[match ccalls::wait(3, 0, duty, ontime).wait {
+                    held[match ccalls::wait(3, 0, duty, ontime, 0).wait {
                         25_000 => 0,
                         1_000_000 => 2,
                         _ => 1,
@@ -255,21 +257,106 @@ fn wait_of_every_ontime_beside_its_limits() {
     assert!(held.iter().all(|&n| n > 1_000), "{held:?}");
 }
 
+/// On-times at the limits of the profiles, and where profile 4's wait is first held or ceases to be.
+const EDGE_ONTIMES: [u32; 16] = [
+    0,
+    1,
+    16,
+    17,
+    54,
+    55,
+    500,
+    501,
+    658,
+    659,
+    1_000,
+    1_001,
+    2_083,
+    2_084,
+    MOST_ONTIME,
+    MOST_ONTIME + 1,
+];
+
+/// Every load, in the C wait of each profile; profile 4 alone goes by it.
 #[test]
-fn wait_on_random_quadruples() {
+fn wait_of_every_load() {
+    for load in (0..=FULL_LOAD).chain(LOADS_ABOVE) {
+        for ontime in EDGE_ONTIMES {
+            hold_wait([4, 0, LEAST_DUTY, ontime, load], &"every load");
+        }
+        for profile in PROFILES {
+            hold_wait([profile, 4, MOST_DUTY, 400, load], &"every load");
+        }
+    }
+}
+
+/// Every on-time at every per mille, and beside each.
+#[test]
+fn wait_of_every_per_mille() {
+    for load in (0..=1_000u32).map(|c| 1_000 * c) {
+        for beside in [load.saturating_sub(1), load, load + 1] {
+            for ontime in 0..=MOST_ONTIME + 1 {
+                hold_wait([4, 0, LEAST_DUTY, ontime, beside], &"every per mille");
+            }
+        }
+    }
+}
+
+/// Document 02, W-209, apart from the reference: for a load above 620,000 a wait below 1,000,000 has wait x load at least
+/// on-time x (3,999 x load - 2,480,000,000). Up to it the wait is 25,000.
+#[test]
+fn profile_4_waits_no_shorter_than_the_formula() {
+    let mut between = 0;
+    for load in 0..=FULL_LOAD {
+        for ontime in EDGE_ONTIMES.into_iter().filter(|o| (1..=4_000).contains(o)) {
+            let wait = rules::wait(4, 0, LEAST_DUTY, ontime, load).unwrap();
+            assert!((25_000..=1_000_000).contains(&wait));
+            let [w, l, o] = [wait, load, ontime].map(i64::from);
+            if load <= 620_000 {
+                assert_eq!(wait, 25_000, "load {load}, on-time {ontime}");
+            } else if wait < 1_000_000 {
+                let asked = o * (3_999 * l - 2_480_000_000);
+                assert!(w * l >= asked, "load {load}, on-time {ontime}");
+            }
+            between += u32::from(25_000 < wait && wait < 1_000_000);
+        }
+    }
+    assert!(between > 1_000_000, "{between}");
+}
+
+/// Document 02, W-209: the factors 6, 12, 457 and 1,519, and the waits at 620,000, 620,001 and 1,000,000.
+#[test]
+fn reading_waits_of_profile_4() {
+    for (ontime, load, wait) in [
+        (4_000, 620_000, 25_000),
+        (4_000, 620_001, 25_000), // 6 x 4,000 is less
+        (4_000, 621_000, 25_000),
+        (4_000, 621_001, 48_000),
+        (4_000, 622_000, 48_000),
+        (400, 699_001, 182_800),
+        (400, 700_000, 182_800),
+        (400, 700_001, 184_800),
+        (658, 1_000_000, 999_502),
+        (659, 1_000_000, 1_000_000),
+        (4_000, 1_000_000, 1_000_000),
+        (1, 1_000_000, 25_000),
+    ] {
+        let answer = rules::wait(4, 0, LEAST_DUTY, ontime, load);
+        assert_eq!(answer, Ok(wait), "load {load}, on-time {ontime}");
+    }
+}
+
+#[test]
+fn wait_on_random_numbers() {
     const SEED: u64 = 0x5EED_0003;
     let mut rng = Rng::new(SEED);
     for turn in 0..10_000_000 {
         let numbers = [
-            mixed(&mut rng, 1, 3, &PROFILES),
+            mixed(&mut rng, 1, 4, &PROFILES),
             mixed(&mut rng, 0, 4, &LEVELS),
             mixed(&mut rng, LEAST_DUTY, MOST_DUTY, &EDGE_DUTIES),
-            mixed(
-                &mut rng,
-                1,
-                MOST_ONTIME,
-                &[0, 500, 501, 1_000, 1_001, 4_001],
-            ),
+            mixed(&mut rng, 1, MOST_ONTIME, &EDGE_ONTIMES),
+            mixed(&mut rng, 0, FULL_LOAD, &EDGE_LOADS),
         ];
         hold_wait(numbers, &format_args!("seed {SEED:#x}, turn {turn}"));
     }
@@ -287,9 +374,9 @@ fn reading_duty_stays_at_its_limits() {
 /// Document 01, "Bench readings": waits at duty 600,000.
 #[test]
 fn reading_waits_at_least_duty() {
-    assert_eq!(rules::wait(3, 0, LEAST_DUTY, 599), Ok(998_334));
-    assert_eq!(rules::wait(3, 0, LEAST_DUTY, 600), Ok(1_000_000));
-    assert_eq!(rules::wait(3, 0, LEAST_DUTY, 601), Ok(1_000_000));
+    for (ontime, wait) in [(599, 998_334), (600, 1_000_000), (601, 1_000_000)] {
+        assert_eq!(rules::wait(3, 0, LEAST_DUTY, ontime, 0), Ok(wait));
+    }
 }
 
 /// Document 01, "Bench readings": level 0 to 4 takes four samples of full load.
@@ -324,13 +411,14 @@ fn refusals_in_order() {
         rules::duty_update(LEAST_DUTY, 0, 0, bad),
         Err(RuleRefusal::Load)
     );
-    assert_eq!(rules::wait(4, 5, 0, 0), Err(RuleRefusal::Profile));
-    assert_eq!(
-        rules::wait(3, 5, LEAST_DUTY, 0),
-        Err(RuleRefusal::LevelOrDuty)
-    );
-    assert_eq!(rules::wait(3, 0, 599_999, 0), Err(RuleRefusal::LevelOrDuty));
-    assert_eq!(rules::wait(3, 0, LEAST_DUTY, 0), Err(RuleRefusal::OnTime));
+    assert_eq!(rules::wait(5, 5, 0, 0, bad), Err(RuleRefusal::Profile));
+    for profile in 1..=4 {
+        let wait = |level, duty, ontime, load| rules::wait(profile, level, duty, ontime, load);
+        assert_eq!(wait(5, LEAST_DUTY, 0, bad), Err(RuleRefusal::LevelOrDuty));
+        assert_eq!(wait(0, 599_999, 0, bad), Err(RuleRefusal::LevelOrDuty));
+        assert_eq!(wait(0, LEAST_DUTY, 0, 1_000_001), Err(RuleRefusal::Load));
+        assert_eq!(wait(0, LEAST_DUTY, 0, 1_000_000), Err(RuleRefusal::OnTime));
+    }
 }
 
 #[test]

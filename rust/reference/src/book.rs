@@ -5,7 +5,8 @@
 //! counts are written out again here. What it checks after every call:
 //!
 //! 1. The ceiling: over any window of W µs, closed at both ends,
-//!    100 × air time admitted is at most 3 × W + 400,000.
+//!    100 × air time admitted is at most 3 × W + 400,000. W-209: profile 4 does
+//!    not owe it.
 //! 2. The floor: an accepted poll that finds an unexpired packet when every
 //!    earlier admission is [`floor`] µs or more before sends.
 //! 3. SENT never comes with all columns empty, and carries the packet struck.
@@ -47,14 +48,20 @@ pub const STRETCH_MOST: u64 = 30_000;
 /// W-207: the shortest time between two admissions, in µs.
 pub const APART: u64 = 25_000;
 
-/// W-202: in this profile an admission so many µs ago no longer keeps a poll
-/// from sending. Only the three profiles have runs.
+/// W-202 and W-209: in this profile an admission so many µs ago no longer keeps
+/// a poll from sending. Only the four profiles have runs.
 pub fn floor(profile: u32) -> u64 {
     match profile {
         1 => 1_001_000,
         2 => 1_000_500,
-        _ => 1_000_000,
+        3 => 1_000_000,
+        _ => 1_004_000,
     }
+}
+
+/// W-209: whether the ceiling is claimed of the profile.
+pub fn owes_ceiling(profile: u32) -> bool {
+    profile != 4
 }
 
 /// A packet in a column.
@@ -74,7 +81,8 @@ pub struct Entry {
 /// How near a run came to what demand 3 forbids.
 #[derive(Clone, Copy, Debug, Default, PartialEq, Eq)]
 pub struct Closest {
-    /// The smallest of 3 × W + 400,000 − 100 × air time over all windows.
+    /// The smallest of 3 × W + 400,000 − 100 × air time over all windows; none
+    /// where the ceiling is not claimed.
     pub smallest_slack: Option<i128>,
     /// The shortest time between two admissions.
     pub shortest_gap: Option<u64>,
@@ -94,6 +102,7 @@ pub struct Closest {
 #[derive(Clone, Debug)]
 pub struct Book {
     floor: u64,
+    ceiling: bool,
     time: u64,
     stamp: u32,
     columns: [VecDeque<Entry>; 4],
@@ -111,6 +120,7 @@ impl Book {
     pub fn new(profile: u32, stamp: u32) -> Book {
         Book {
             floor: floor(profile),
+            ceiling: owes_ceiling(profile),
             time: 0,
             stamp,
             columns: Default::default(),
@@ -127,6 +137,11 @@ impl Book {
     /// The floor of the run's profile.
     pub fn floor(&self) -> u64 {
         self.floor
+    }
+
+    /// Whether the run owes the ceiling.
+    pub fn owes_ceiling(&self) -> bool {
+        self.ceiling
     }
 
     /// The book's time.
@@ -410,6 +425,9 @@ impl Book {
         }
         self.heaviest = 100 * i128::from(ontime) + carried.max(0);
         self.last_admission = Some(self.time);
+        if !self.ceiling {
+            return Ok(());
+        }
         let slack = CEILING_BASE - self.heaviest;
         let smallest = self.closest.smallest_slack;
         self.closest.smallest_slack = Some(smallest.map_or(slack, |old| old.min(slack)));

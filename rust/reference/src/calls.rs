@@ -2,14 +2,15 @@
 
 use crate::state::Packet;
 
-/// "Refusal numbers": profile not 1 to 3. W-205: or an old way that is neither
-/// yes nor no.
+/// "Refusal numbers" and W-209: profile not 1 to 4. W-205: or an old way that is
+/// neither yes nor no.
 pub const BAD_PROFILE: u32 = 1;
 /// "Refusal numbers": step of 2,147,483,648 or more.
 pub const CLOCK_BACK: u32 = 2;
 /// "Refusal numbers": running time would pass 10^15.
 pub const CLOCK_END: u32 = 3;
-/// "Refusal numbers": not a sample.
+/// "Refusal numbers": not a sample. W-208: a probe count outside 1 to 12,500,
+/// a wrong number of words, a stray bit, or busy above probes.
 pub const BAD_SAMPLE: u32 = 4;
 /// "Refusal numbers": priority above 3.
 pub const BAD_PRIORITY: u32 = 5;
@@ -30,13 +31,18 @@ pub const SPENT: u32 = 11;
 pub const NO_ROOM: u32 = 12;
 /// W-204: record bytes that are not a multiple of 16.
 pub const TORN_LOG: u32 = 13;
+/// W-211: a load that does not compare as 0.0 to 1.0, or a duty that does not as
+/// 0.0006 to 0.03.
+pub const BAD_FLOAT: u32 = 14;
 
 /// A call on the state: everything but make.
 #[derive(Clone, Debug, PartialEq, Eq)]
 pub enum Call {
     /// A sample by words.
     SampleWords {
-        /// The words lent; a good sample has 16.
+        /// The number of probes.
+        probes: u32,
+        /// The words lent; a good sample has just enough for its probes.
         words: Vec<u64>,
         /// The radio's count.
         stamp: u32,
@@ -45,6 +51,8 @@ pub enum Call {
     SampleCount {
         /// The number of busy probes.
         busy: u32,
+        /// The number of probes.
+        probes: u32,
         /// The radio's count.
         stamp: u32,
     },

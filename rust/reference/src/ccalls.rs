@@ -105,18 +105,22 @@ pub fn duty_update(duty: u32, smoothed: u32, kept: u32, new: u32) -> DutyResult 
     }
 }
 
-/// The wait after an admission; every number is judged, used or not.
-pub fn wait(profile: u32, level: u32, duty: u32, ontime: u32) -> WaitResult {
+/// The wait after an admission; every number is judged, used or not. W-209: the
+/// latest load is the last of them.
+pub fn wait(profile: u32, level: u32, duty: u32, ontime: u32, load: u32) -> WaitResult {
     if !rules::profile_known(profile) {
         return wait_refused(BAD_PROFILE);
     }
     if level > rules::LEVEL_MOST || !rules::duty_allowed(duty) {
         return wait_refused(OUT_OF_RANGE);
     }
+    if load > rules::LOAD_MOST {
+        return wait_refused(BAD_LOAD);
+    }
     if !rules::on_time_allowed(profile, ontime) {
         return wait_refused(BAD_ON_TIME);
     }
-    match rules::wait(profile, level, duty, ontime) {
+    match rules::wait(profile, level, duty, ontime, load) {
         Some(wait) => WaitResult { refusal: 0, wait },
         // Not reached: profile, level and duty are within range here.
         None => wait_refused(OUT_OF_RANGE),

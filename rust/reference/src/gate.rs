@@ -21,14 +21,14 @@ pub fn make(profile: u32, oldway: u32, stamp: u32) -> (State, Answer) {
     }
 }
 
-/// A sample by words.
-pub fn sample_words(state: State, words: &[u64], stamp: u32) -> (State, Answer) {
-    sample(state, rules::load_of_words(words), stamp)
+/// A sample of so many probes, by words.
+pub fn sample_words(state: State, probes: u32, words: &[u64], stamp: u32) -> (State, Answer) {
+    sample(state, rules::load_of_words(probes, words), stamp)
 }
 
-/// A sample by busy count.
-pub fn sample_count(state: State, busy: u32, stamp: u32) -> (State, Answer) {
-    sample(state, rules::load_of_count(busy), stamp)
+/// A sample by busy count, of so many probes.
+pub fn sample_count(state: State, busy: u32, probes: u32, stamp: u32) -> (State, Answer) {
+    sample(state, rules::load_of_count(busy, probes), stamp)
 }
 
 /// An offer of one packet: 9, 2, 3, 5, 6, 7, 8, 11, else it joins its queue,
@@ -85,8 +85,16 @@ pub fn poll(state: State, stamp: u32) -> (State, Answer) {
 /// Any call on the state.
 pub fn call(state: State, call: &Call) -> (State, Answer) {
     match *call {
-        Call::SampleWords { ref words, stamp } => sample_words(state, words, stamp),
-        Call::SampleCount { busy, stamp } => sample_count(state, busy, stamp),
+        Call::SampleWords {
+            probes,
+            ref words,
+            stamp,
+        } => sample_words(state, probes, words, stamp),
+        Call::SampleCount {
+            busy,
+            probes,
+            stamp,
+        } => sample_count(state, busy, probes, stamp),
         Call::Offer {
             id,
             priority,
@@ -139,28 +147,39 @@ fn sample(state: State, load: Option<u32>, stamp: u32) -> (State, Answer) {
     }
 }
 
-/// "Samples": profiles 1 and 2 step the level; profile 3 keeps or pairs.
+/// "Samples" and W-209: profiles 1 and 2 step the level; profile 3 keeps or
+/// pairs; profile 4 remembers the latest load.
 fn load_learnt(state: State, load: u32) -> State {
     if let Some(wanted) = rules::wanted_level(state.profile, load) {
-        State {
-            level: rules::level_step(state.level, wanted),
+        let level = rules::level_step(state.level, wanted);
+        return State { level, ..state };
+    }
+    match state.profile {
+        3 => paired(state, load),
+        _ => State {
+            latest: load,
             ..state
-        }
-    } else if state.haskept {
-        let smoothed = rules::smoothed_next(state.smoothed, state.kept, load);
-        State {
-            smoothed,
-            duty: rules::duty_next(state.duty, smoothed),
-            kept: 0,
-            haskept: false,
-            ..state
-        }
-    } else {
-        State {
+        },
+    }
+}
+
+/// "Samples", profile 3: each odd sample is kept, and each even one, with the
+/// kept one, updates.
+fn paired(state: State, load: u32) -> State {
+    if !state.haskept {
+        return State {
             kept: load,
             haskept: true,
             ..state
-        }
+        };
+    }
+    let smoothed = rules::smoothed_next(state.smoothed, state.kept, load);
+    State {
+        smoothed,
+        duty: rules::duty_next(state.duty, smoothed),
+        kept: 0,
+        haskept: false,
+        ..state
     }
 }
 
@@ -243,8 +262,8 @@ fn wait_left(state: &State) -> u64 {
     let Some(last) = state.last() else {
         return 0;
     };
-    let closed = rules::closed_for(state.profile, state.level, state.duty, last.ontime);
     let passed = state.time - last.at;
+    let closed = state.closed_for(last.ontime);
     closed.map_or(0, |closed| closed.saturating_sub(passed))
 }
 

@@ -1,7 +1,7 @@
 //! The second, independent program of the gate.
 //!
-//! It is document 01 written out plainly, with requests W-201, W-202 and W-204
-//! to W-207 of document 02, to be read beside those papers and run beside the
+//! It is document 01 written out plainly, with requests W-201, W-202, W-204 to
+//! W-209 and W-211 of document 02, to be read beside those papers and run beside the
 //! product. It shares no code and no table with the product.
 //!
 //! - [`rules`]: the rules on plain numbers, and each profile's constants
@@ -13,6 +13,7 @@
 //! - [`log`]: the call log and its program
 //! - [`writer`]: calls written to a log
 //! - [`burst`]: many offers in one call
+//! - [`float`]: the bench's floating update
 //! - [`rng`]: a small number generator for tests
 //! - [`miscounts`]: counts that don't add up, for tests
 //! - [`ledgers`]: ledgers, good and broken, for tests
@@ -27,6 +28,7 @@ pub mod book;
 pub mod burst;
 pub mod calls;
 pub mod ccalls;
+pub mod float;
 pub mod gate;
 pub mod ledgers;
 pub mod log;
@@ -35,3 +37,5 @@ pub mod rng;
 pub mod rules;
 pub mod state;
 pub mod writer;
+
+pub use float::float_update;

@@ -4,6 +4,7 @@ use std::io::{self, ErrorKind, Read, Write};
 
 use crate::calls::BAD_KIND;
 use crate::gate::{self, Answer, Call};
+use crate::rules;
 use crate::state::State;
 
 /// The bytes of a record.
@@ -18,7 +19,8 @@ pub struct Record {
     pub priority: u8,
     /// The on-time.
     pub ontime: u16,
-    /// The lifetime; of a make the old way, 1 for yes and 0 for no.
+    /// The lifetime; of a make the old way, 1 for yes and 0 for no; of a sample
+    /// the probe count, where 0 means 1,000.
     pub lifetime: u32,
     /// The identifier; of a sample the busy count.
     pub id: u32,
@@ -52,6 +54,14 @@ impl Record {
         bytes[8..12].copy_from_slice(&self.id.to_le_bytes());
         bytes[12..16].copy_from_slice(&self.stamp.to_le_bytes());
         bytes
+    }
+
+    /// W-208: the probe count that a sample's lifetime field tells.
+    pub fn probes(&self) -> u32 {
+        match self.lifetime {
+            0 => rules::PROBES,
+            told => told,
+        }
     }
 }
 
@@ -88,7 +98,11 @@ pub fn read(record: &Record) -> Result<LogCall, u32> {
             oldway: lifetime,
             stamp,
         }),
-        1 => Ok(LogCall::On(Call::SampleCount { busy: id, stamp })),
+        1 => Ok(LogCall::On(Call::SampleCount {
+            busy: id,
+            probes: record.probes(),
+            stamp,
+        })),
         2 => Ok(LogCall::On(Call::Offer {
             id,
             priority,

@@ -51,6 +51,21 @@ pub struct Adaptive {
     pub wait_from: WaitFrom,
 }
 
+/// The constants of the harmonised profile (W-209).
+#[derive(Clone, Copy, Debug, PartialEq, Eq)]
+pub struct Harmonised {
+    /// Longest on-time allowed, in µs. The shortest is 1.
+    pub on_time_max: u32,
+    /// Up to this load, in per mille, the wait is the shortest.
+    pub calm_to: u32,
+    /// The wait is held at or above this, in µs.
+    pub wait_least: u32,
+    /// The wait is held at or below this, in µs.
+    pub wait_most: u32,
+    /// Where the wait starts.
+    pub wait_from: WaitFrom,
+}
+
 /// Profile 1: reactive, Table A.1.
 pub const PROFILE_1: Reactive = Reactive {
     on_time_max: 1_000,
@@ -85,6 +100,15 @@ pub const PROFILE_3: Adaptive = Adaptive {
     wait_from: WaitFrom::Start,
 };
 
+/// Profile 4: harmonised, EN 302 571, clause 4.2.10 (W-209).
+pub const PROFILE_4: Harmonised = Harmonised {
+    on_time_max: 4_000,
+    calm_to: 620,
+    wait_least: 25_000,
+    wait_most: 1_000_000,
+    wait_from: WaitFrom::End,
+};
+
 /// The least duty of any state ("State and calls"), and a fresh state's.
 pub const DUTY_LEAST: u32 = 600_000;
 /// The greatest duty of any state ("State and calls").
@@ -93,12 +117,11 @@ pub const DUTY_MOST: u32 = 30_000_000;
 pub const LOAD_MOST: u32 = 1_000_000;
 /// The highest level, Restrictive.
 pub const LEVEL_MOST: u32 = 4;
-/// The number of probes in a sample ("Samples").
+/// The number of probes that a sample had before W-208, and has in a log that
+/// does not tell it.
 pub const PROBES: u32 = 1_000;
-/// The number of words in a sample ("Samples").
-pub const SAMPLE_WORDS: usize = 16;
-/// The number of low bits that the last word of a sample uses: 0 to 39.
-pub const LAST_WORD_BITS: u32 = 40;
+/// W-208: the most probes in a sample. The fewest is 1.
+pub const PROBES_MOST: u32 = 12_500;
 /// The running time at which the clock ends: 10^15 µs, still good itself.
 pub const TIME_END: u64 = 1_000_000_000_000_000;
 /// The most offers that a state accepts (W-201): 10^15, still good itself.
@@ -119,9 +142,9 @@ pub const OLD_WAY: u32 = 1;
 /// The highest priority number.
 pub const PRIORITY_MOST: u32 = 3;
 
-/// Whether the profile is one of the three.
+/// Whether the profile is one of the four.
 pub fn profile_known(profile: u32) -> bool {
-    (1..=3).contains(&profile)
+    (1..=4).contains(&profile)
 }
 
 /// W-205: whether the number is a yes or a no to the old way.
@@ -138,17 +161,18 @@ pub fn reactive(profile: u32) -> Option<Reactive> {
     }
 }
 
-/// "The three profiles": the longest on-time allowed.
+/// "The three profiles" and W-209: the longest on-time allowed.
 pub fn on_time_max(profile: u32) -> Option<u32> {
     match profile {
         1 => Some(PROFILE_1.on_time_max),
         2 => Some(PROFILE_2.on_time_max),
         3 => Some(PROFILE_3.on_time_max),
+        4 => Some(PROFILE_4.on_time_max),
         _ => None,
     }
 }
 
-/// "The three profiles": whether the profile allows the on-time.
+/// "The three profiles" and W-209: whether the profile allows the on-time.
 /// An unknown profile allows none.
 pub fn on_time_allowed(profile: u32, ontime: u32) -> bool {
     match on_time_max(profile) {
@@ -279,21 +303,58 @@ pub fn wait_adaptive(duty: u32, ontime: u32) -> Option<u32> {
     Some(ceiling.max(least).min(most) as u32) // at most 1,000,000
 }
 
-/// "Waiting and leaving": the wait, by profile.
-pub fn wait(profile: u32, level: u32, duty: u32, ontime: u32) -> Option<u32> {
+/// W-209: a load in per mille, rounded up.
+pub fn per_mille(load: u32) -> u32 {
+    let whole = load / 1_000;
+    if load % 1_000 == 0 {
+        whole
+    } else {
+        whole + 1
+    }
+}
+
+/// W-209: the factor of a load in per mille: 3,999 − floor(2,480,000 / c) above
+/// 620. Up to there it has no part in the wait, and is 0.
+pub fn factor(c: u32) -> u32 {
+    if c <= PROFILE_4.calm_to {
+        0
+    } else {
+        3_999 - 2_480_000 / c // c is 621 or more, and the quotient at most 3,993
+    }
+}
+
+/// W-209: the wait after a packet of that on-time, at the latest load: 25,000
+/// for a calm one, else the factor times the on-time, held within 25,000 to
+/// 1,000,000.
+pub fn wait_harmonised(load: u32, ontime: u32) -> u32 {
+    let c = per_mille(load);
+    if c <= PROFILE_4.calm_to {
+        return PROFILE_4.wait_least;
+    }
+    let product = u64::from(factor(c)) * u64::from(ontime);
+    let least = u64::from(PROFILE_4.wait_least);
+    let most = u64::from(PROFILE_4.wait_most);
+    product.max(least).min(most) as u32 // at most 1,000,000
+}
+
+/// "Waiting and leaving" and W-209: the wait, by profile. `latest` is the
+/// latest load.
+pub fn wait(profile: u32, level: u32, duty: u32, ontime: u32, latest: u32) -> Option<u32> {
     match profile {
         1 | 2 => wait_reactive(profile, level),
         3 => wait_adaptive(duty, ontime),
+        4 => Some(wait_harmonised(latest, ontime)),
         _ => None,
     }
 }
 
-/// W-202: where the profile's wait starts.
+/// W-202 and W-209: where the profile's wait starts.
 pub fn wait_from(profile: u32) -> Option<WaitFrom> {
     match profile {
         1 => Some(PROFILE_1.wait_from),
         2 => Some(PROFILE_2.wait_from),
         3 => Some(PROFILE_3.wait_from),
+        4 => Some(PROFILE_4.wait_from),
         _ => None,
     }
 }
@@ -301,8 +362,8 @@ pub fn wait_from(profile: u32) -> Option<WaitFrom> {
 /// W-202: how long after an admission the gate is closed: the wait, and before
 /// it the on-time where the wait starts at the end. `ontime` is the admitted
 /// packet's.
-pub fn closed_for(profile: u32, level: u32, duty: u32, ontime: u32) -> Option<u64> {
-    let wait = u64::from(wait(profile, level, duty, ontime)?);
+pub fn closed_for(profile: u32, level: u32, duty: u32, ontime: u32, latest: u32) -> Option<u64> {
+    let wait = u64::from(wait(profile, level, duty, ontime, latest)?);
     match wait_from(profile)? {
         WaitFrom::Start => Some(wait),
         WaitFrom::End => Some(u64::from(ontime) + wait),
@@ -348,29 +409,50 @@ pub fn busy_count(words: &[u64]) -> u64 {
     busy
 }
 
-/// "Refusal numbers", 4: 16 words, no bit above bit 39 set in the last.
-pub fn words_good(words: &[u64]) -> bool {
-    words.len() == SAMPLE_WORDS && words[SAMPLE_WORDS - 1] >> LAST_WORD_BITS == 0
+/// W-208: a sample has 1 to 12,500 probes.
+pub fn probes_good(probes: u32) -> bool {
+    (1..=PROBES_MOST).contains(&probes)
 }
 
-/// "Refusal numbers", 4: a busy count of at most 1,000.
-pub fn count_good(busy: u32) -> bool {
-    busy <= PROBES
+/// W-208: "just enough words" for so many probes.
+pub fn words_needed(probes: u32) -> usize {
+    let whole = probes as usize / 64;
+    if probes % 64 == 0 {
+        whole
+    } else {
+        whole + 1
+    }
 }
 
-/// "Samples": load is 1,000 times the busy count. A bad count has no load.
-pub fn load_of_count(busy: u32) -> Option<u32> {
-    if count_good(busy) {
-        Some(1_000 * busy)
+/// "Refusal numbers", 4, by words: a good probe count, just enough words, and
+/// no bit set past the last probe.
+pub fn words_good(probes: u32, words: &[u64]) -> bool {
+    if !probes_good(probes) || words.len() != words_needed(probes) {
+        return false;
+    }
+    let mut stray = probes as usize..64 * words.len();
+    stray.all(|k| probe_busy(words, k) == Some(false))
+}
+
+/// "Refusal numbers", 4, by count: a good probe count, and no more busy.
+pub fn count_good(busy: u32, probes: u32) -> bool {
+    probes_good(probes) && busy <= probes
+}
+
+/// W-208: load = floor(1,000,000 × busy / probes). A bad sample has no load.
+pub fn load_of_count(busy: u32, probes: u32) -> Option<u32> {
+    if count_good(busy, probes) {
+        let load = u64::from(LOAD_MOST) * u64::from(busy) / u64::from(probes);
+        Some(load as u32) // at most 1,000,000
     } else {
         None
     }
 }
 
-/// "Samples": the load of a sample by words. A bad sample has no load.
-pub fn load_of_words(words: &[u64]) -> Option<u32> {
-    if words_good(words) {
-        load_of_count(busy_count(words) as u32) // at most 1,000 bits
+/// W-208: the load of a sample by words. A bad sample has no load.
+pub fn load_of_words(probes: u32, words: &[u64]) -> Option<u32> {
+    if words_good(probes, words) {
+        load_of_count(busy_count(words) as u32, probes) // at most 12,500 bits
     } else {
         None
     }

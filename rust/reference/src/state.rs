@@ -1,5 +1,5 @@
 //! The state, and what makes one sound ("State and calls", W-201's counts,
-//! W-205's way and W-207's ledger).
+//! W-205's way, W-207's ledger and W-209's latest load).
 //!
 //! The fields are raw, so that any state a host could build can be judged.
 
@@ -169,7 +169,7 @@ impl Counts {
 pub struct State {
     /// Whether it is live.
     pub live: bool,
-    /// The profile, 1 to 3.
+    /// The profile, 1 to 4.
     pub profile: u32,
     /// Whether it was made in the old way: 1 if so, 0 if not.
     pub oldway: u32,
@@ -187,6 +187,9 @@ pub struct State {
     pub kept: u32,
     /// Whether a sample is kept.
     pub haskept: bool,
+    /// W-209: the load of the last sample accepted; 0 before any, and in the
+    /// other profiles.
+    pub latest: u32,
     /// Whether anything was admitted.
     pub any: bool,
     /// The running time of the last admission.
@@ -217,6 +220,17 @@ impl State {
     /// How many packets wait in all queues.
     pub fn waiting(&self) -> usize {
         self.queues.iter().map(|queue| queue.waiting().len()).sum()
+    }
+
+    /// The wait after a packet of that on-time, taken now.
+    pub fn wait(&self, ontime: u32) -> Option<u32> {
+        rules::wait(self.profile, self.level, self.duty, ontime, self.latest)
+    }
+
+    /// How long after its admission a packet of that on-time keeps the gate
+    /// closed, taken now.
+    pub fn closed_for(&self, ontime: u32) -> Option<u64> {
+        rules::closed_for(self.profile, self.level, self.duty, ontime, self.latest)
     }
 
     /// The last admission, if anything was admitted.
@@ -266,11 +280,11 @@ impl State {
 /// One rule of soundness: its name, and whether it holds of a state.
 type Rule = (&'static str, fn(&State) -> bool);
 
-/// The rules in the order of the paper's list, then W-201's two, W-205's, and
-/// those of W-207 in the order of its list.
-const RULES: [Rule; 30] = [
+/// The rules in the order of the paper's list, then W-201's two, W-205's, those
+/// of W-207 in the order of its list, and W-209's two.
+const RULES: [Rule; 32] = [
     ("live", |s| s.live),
-    ("profile 1 to 3", |s| rules::profile_known(s.profile)),
+    ("profile 1 to 4", |s| rules::profile_known(s.profile)),
     ("level at most 4", |s| s.level <= rules::LEVEL_MOST),
     ("duty within limits", |s| rules::duty_allowed(s.duty)),
     ("smoothed load at most 1,000,000", |s| {
@@ -329,6 +343,12 @@ const RULES: [Rule; 30] = [
     ("ledger room past the length zero", |s| {
         let zero = |room: &Admission| *room == Admission::default();
         s.ledger.unused().iter().all(zero)
+    }),
+    ("latest load at most 1,000,000", |s| {
+        s.latest <= rules::LOAD_MOST
+    }),
+    ("latest load zero outside profile 4", |s| {
+        s.profile == 4 || s.latest == 0
     }),
 ];
 

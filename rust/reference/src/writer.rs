@@ -2,7 +2,8 @@
 //!
 //! The writer judges width, not worth: a number that the gate refuses is
 //! written if its field has room for it. Lifetime, busy count, identifier and
-//! stamp are as wide as their fields, and always fit.
+//! stamp are as wide as their fields, and always fit; so does a probe count but
+//! for 0, which the field has another meaning for (W-208).
 
 use crate::calls::{BAD_ON_TIME, BAD_PRIORITY, BAD_PROFILE, BAD_SAMPLE, NO_ROOM};
 use crate::gate::Call;
@@ -36,13 +37,16 @@ pub fn record_of(call: &LogCall) -> Result<Record, u32> {
             oldway,
             stamp,
         } => make(profile, oldway, stamp),
-        LogCall::On(Call::SampleWords { ref words, stamp }) => sample(words, stamp),
-        LogCall::On(Call::SampleCount { busy, stamp }) => Ok(Record {
-            kind: 1,
-            id: busy,
+        LogCall::On(Call::SampleWords {
+            probes,
+            ref words,
             stamp,
-            ..Record::default()
-        }),
+        }) => sample_words(probes, words, stamp),
+        LogCall::On(Call::SampleCount {
+            busy,
+            probes,
+            stamp,
+        }) => sample_count(busy, probes, stamp),
         LogCall::On(Call::Offer {
             id,
             priority,
@@ -80,13 +84,25 @@ fn make(profile: u32, oldway: u32, stamp: u32) -> Result<Record, u32> {
 }
 
 /// A sample by words, by its busy count; a bad one is refused.
-fn sample(words: &[u64], stamp: u32) -> Result<Record, u32> {
-    if !rules::words_good(words) {
+fn sample_words(probes: u32, words: &[u64], stamp: u32) -> Result<Record, u32> {
+    if !rules::words_good(probes, words) {
         return Err(BAD_SAMPLE);
     }
+    sample_count(rules::busy_count(words) as u32, probes, stamp) // at most 12,500
+}
+
+/// A sample by its busy count. W-208: 1,000 probes are written as 0, and a
+/// probe count of 0 is refused.
+fn sample_count(busy: u32, probes: u32, stamp: u32) -> Result<Record, u32> {
+    let lifetime = match probes {
+        0 => return Err(BAD_SAMPLE),
+        rules::PROBES => 0,
+        other => other,
+    };
     Ok(Record {
         kind: 1,
-        id: rules::busy_count(words) as u32, // at most 1,000
+        lifetime,
+        id: busy,
         stamp,
         ..Record::default()
     })

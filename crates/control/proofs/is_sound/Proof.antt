@@ -8,7 +8,7 @@ use borrow.Author.Tests.{not-true, not-false, le-leb, lt-leb}
 use Rattle.rules.specs.Profiles.{fullLoad, topLevel, isProfile, dutyAllowed}
 use Rattle.rules.proofs.Tests.{tests}
 use Rattle.control.specs.declared.Tuning.{Tuning}
-use Rattle.control.specs.Control.{controlOf, pairingSound, soundControl}
+use Rattle.control.specs.Control.{controlOf, pairingSound, latestSound, soundControl}
 use borrow.Author.Needs.{needs}
 use Rattle.control.proofs.is_sound.Statement.{statement}
 use Rattle.control.proofs.is_sound.Tie as tie
@@ -54,6 +54,20 @@ returns-5 c =
     let b = c .before .before .before .before in
     search (tests, profile-passed (b .before .before .before .before), duty-passed b)
 
+is-latest-sound-requires : tie.Need-is-latest-sound-requires
+is-latest-sound-requires c κs = search needs
+
+returns-6 : tie.Need-returns-6
+unfolding soundControl
+returns-6 c =
+    let b = c .before .before .before .before .before .before in
+    search (
+      tests,
+      profile-passed (b .before .before .before .before),
+      duty-passed b,
+      sym (c .before .is-latest-sound .ensures) ∙ not-true _ (c .if6 .taken),
+    )
+
 -- what the tests before the last leave
 record Passed (profile : ℕ) (t : Tuning) : Type 0 where
   profile-allowed : isProfile profile ≡ true
@@ -61,17 +75,20 @@ record Passed (profile : ℕ) (t : Tuning) : Type 0 where
   duty : dutyAllowed (t .duty) ≡ true
   smoothed : t .smoothed ≤ fullLoad
   kept : t .kept ≤ fullLoad
+  latest : latestSound profile (t .latest) ≡ true
 
-passed : (c : tie.Else5) → let a = c .before .before .before .before .before .before .before .before .before .before .args in
+passed : (c : tie.Else6)
+    → let a = c .before .before .before .before .before .before .before .before .before .before .before .before .args in
     Passed (a .profile) (a .t)
 passed c =
-    let b = c .before .before .before .before in
+    let b = c .before .before .before .before .before .before in
     record {
       profile-allowed = profile-passed (b .before .before .before .before);
       level = omega arith;
       duty = duty-passed b;
       smoothed = omega arith;
       kept = omega arith;
+      latest = sym (c .before .is-latest-sound .ensures) ∙ not-false _ (c .if6 .left);
     }
 
 -- by whether a sample is kept
@@ -85,6 +102,7 @@ none-kept profile t p e =
       p .duty,
       le-leb _ _ (p .smoothed),
       le-leb _ _ (p .kept),
+      p .latest,
       e,
       and-true,
     )
@@ -99,6 +117,7 @@ one-kept profile t p e =
       p .duty,
       le-leb _ _ (p .smoothed),
       le-leb _ _ (p .kept),
+      p .latest,
       e,
       and-true,
     )
@@ -113,17 +132,18 @@ more-kept profile t p e =
       p .duty,
       le-leb _ _ (p .smoothed),
       le-leb _ _ (p .kept),
+      p .latest,
       lt-leb _ _ e,
     )
 
-returns-6 : tie.Need-returns-6
-returns-6 c = none-kept _ _ (passed (c .before .before)) (c .before .match .keys1)
-
 returns-7 : tie.Need-returns-7
-returns-7 c = one-kept _ _ (passed (c .before)) (c .match .keys2)
+returns-7 c = none-kept _ _ (passed (c .before .before)) (c .before .match .keys1)
 
 returns-8 : tie.Need-returns-8
-returns-8 c = more-kept _ _ (passed (c .before)) (omega (arith, c .match .rest))
+returns-8 c = one-kept _ _ (passed (c .before)) (c .match .keys2)
+
+returns-9 : tie.Need-returns-9
+returns-9 c = more-kept _ _ (passed (c .before)) (omega (arith, c .match .rest))
 
 pub is-sound-spec : {M : Type 1} → statement M
 is-sound-spec =
@@ -136,6 +156,8 @@ is-sound-spec =
     returns-3
     returns-4
     returns-5
+    is-latest-sound-requires
     returns-6
     returns-7
-    returns-8)
+    returns-8
+    returns-9)

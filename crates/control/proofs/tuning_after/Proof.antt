@@ -1,4 +1,5 @@
--- A reactive profile steps its level; profile 3 keeps the first sample of a pair and updates at the second.
+-- A reactive profile steps its level; profile 4 notes the load; profile 3 keeps the first sample of a pair and updates at the
+-- second.
 use mathlib.Core.Path.{sym, _∙_}
 use borrow.Author.Tests.{eq-eqb, ne-eqb}
 use Rattle.control.specs.Control.{controlOf, sampled}
@@ -32,34 +33,48 @@ returns c =
       t .reactive-of .ensures,
     )
 
+returns-2 : tie.Need-returns-2
+unfolding sampled
+returns-2 c =
+    let t = c .before in
+    simp (sym (t .before .lies-within .ensures) ∙ t .if1 .left, eq-eqb _ _ (c .if2 .taken))
+
 smooth-requires : tie.Need-smooth-requires
 smooth-requires c κs =
-    let s = c .before .before .before .before in
+    let s = c .before .before .before .before .before in
     let h = test-control (controlOf (s .args .profile) (s .args .t)) (s .pre .0) .tuning in
     (h .smoothed, (h .kept, s .pre .1))
 
 next-duty-requires : tie.Need-next-duty-requires
 next-duty-requires c κs =
-    let s = c .before .before .before .before .before in
+    let s = c .before .before .before .before .before .before in
     let d = duty-limits (controlOf (s .args .profile) (s .args .t)) (s .pre .0) in
     (d .0, (d .1, c .smooth .ensures .1))
-
-returns-2 : tie.Need-returns-2
-unfolding sampled
-returns-2 c =
-    let t = c .before .before .before .before in
-    simp (
-      sym (t .before .lies-within .ensures) ∙ t .if1 .left,
-      eq-eqb _ _ (c .before .before .if2 .taken),
-      c .next-duty .ensures,
-      c .before .smooth .ensures .0,
-    )
 
 returns-3 : tie.Need-returns-3
 unfolding sampled
 returns-3 c =
-    let t = c .before .before in
-    simp (sym (t .before .lies-within .ensures) ∙ t .if1 .left, ne-eqb _ _ (c .if2 .left))
+    let n = c .before .before in
+    let u = n .before .before in
+    let t = u .before in
+    simp (
+      sym (t .before .lies-within .ensures) ∙ t .if1 .left,
+      ne-eqb _ _ (u .if2 .left),
+      eq-eqb _ _ (n .if3 .taken),
+      c .next-duty .ensures,
+      c .before .smooth .ensures .0,
+    )
+
+returns-4 : tie.Need-returns-4
+unfolding sampled
+returns-4 c =
+    let u = c .before .before in
+    let t = u .before in
+    simp (
+      sym (t .before .lies-within .ensures) ∙ t .if1 .left,
+      ne-eqb _ _ (u .if2 .left),
+      ne-eqb _ _ (c .if3 .left),
+    )
 
 pub tuning-after-spec : {M : Type 1} → statement M
 tuning-after-spec =
@@ -70,7 +85,8 @@ tuning-after-spec =
     wanted-requires
     level-step-requires
     returns
+    returns-2
     smooth-requires
     next-duty-requires
-    returns-2
-    returns-3)
+    returns-3
+    returns-4)

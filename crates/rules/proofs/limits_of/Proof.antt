@@ -13,6 +13,9 @@ limits-requires-2 c κs = search needs
 limits-requires-3 : tie.Need-limits-requires-3
 limits-requires-3 c κs = search needs
 
+limits-requires-4 : tie.Need-limits-requires-4
+limits-requires-4 c κs = search needs
+
 returns : tie.Need-returns
 returns c = simp (eq-eqb _ _ (c .before .match .keys1), c .limits .ensures)
 
@@ -20,10 +23,22 @@ returns-2 : tie.Need-returns-2
 returns-2 c = simp (c .before .match .keys2, c .limits2 .ensures)
 
 returns-3 : tie.Need-returns-3
-returns-3 c =
+returns-3 c = simp (c .before .match .keys3, c .limits3 .ensures)
+
+returns-4 : tie.Need-returns-4
+returns-4 c =
     let r = c .before .match .rest in
-    simp (ne-eqb _ _ (r .0 .1), ne-eqb _ _ (r .1), c .limits3 .ensures)
+    simp (ne-eqb _ _ (r .0 .0 .1), ne-eqb _ _ (r .0 .1), ne-eqb _ _ (r .1), c .limits4 .ensures)
 
 pub limits-of-spec : {M : Type 1} → statement M
 limits-of-spec =
-    tie.close (tie.spec limits-requires limits-requires-2 limits-requires-3 returns returns-2 returns-3)
+    tie.close
+    (tie.spec
+    limits-requires
+    limits-requires-2
+    limits-requires-3
+    limits-requires-4
+    returns
+    returns-2
+    returns-3
+    returns-4)

@@ -1,7 +1,7 @@
 -- A bad probe count, a wrong number of words or a stray bit is bad; without stray bits the ones of all words are those of the
 -- probes.
 use denote.Ref.{now}
-use Prim.Native.Nat.{ℕ, _*_, _≤_}
+use Prim.Native.Nat.{_≤_}
 use mathlib.Core.Path.{_≡_, ap, _∙_, sym}
 use mathlib.Core.Bool.{true, false}
 use native.Mathlib.Omega.{arith}

@@ -7,136 +7,16 @@ mod places;
 #[path = "../plain.rs"]
 #[allow(dead_code)]
 mod plain;
+#[path = "../sides.rs"]
+mod sides;
 
-use places::{median, rounds, Call, Run, PLACES};
-use plain::{by_value, Answer, Ledger, Packet, Queue, State};
+use places::{median, rounds, Call, PLACES};
 use presscurlew::sys;
+use sides::{ends_alike, Start, SIDES};
 
 /// Rounds of each side: as many at each place of the stack.
 const ROUNDS: usize = 13 * PLACES;
 const CALLS: usize = 3000;
-
-/// The state that a row starts from, as the archive has it and as plain Rust does.
-#[derive(Clone, Copy)]
-struct Start {
-    archive: sys::State,
-    plain: State,
-}
-
-#[derive(Clone, Copy)]
-#[repr(C)]
-struct Tally {
-    state: State,
-    sent: u64,
-}
-
-extern "C" {
-    fn presscurlew_run_row(state: State, row: *const u32, numbers: usize) -> Tally;
-}
-
-fn rattle(start: Start, row: &[Call]) -> Tally {
-    let numbers = row.as_flattened();
-    // SAFETY: the archive reads `numbers.len()` numbers behind the pointer and keeps neither.
-    unsafe { presscurlew_run_row(start.plain, numbers.as_ptr(), numbers.len()) }
-}
-
-fn packet(p: sys::Packet) -> Packet {
-    Packet {
-        id: p.id,
-        priority: p.priority,
-        ontime: p.ontime,
-        lifetime: p.lifetime,
-        arrival: p.arrival,
-    }
-}
-
-fn queue(q: sys::Queue) -> Queue {
-    Queue {
-        len: q.len as usize,
-        slots: q.slots.map(packet),
-    }
-}
-
-fn state(s: sys::State) -> State {
-    State {
-        queues: s.queues.map(queue),
-        ledger: Ledger {
-            len: s.ledger.len as usize,
-            ats: s.ledger.ats,
-            ontimes: s.ledger.ontimes,
-        },
-        time: s.clock.time,
-        stamp: s.clock.stamp,
-        gap: 0,
-        at: s.last.at,
-        ontime: s.last.ontime,
-        admitted: s.last.admitted,
-        accepted: s.counts.accepted,
-        sent: s.counts.sent,
-        expired: s.counts.expired,
-        displaced: s.counts.displaced,
-        level: s.tuning.level,
-        duty: s.tuning.duty,
-        smoothed: s.tuning.smoothed,
-        kept: s.tuning.kept,
-        pairing: s.tuning.pairing,
-        profile: s.profile,
-        oldway: s.oldway,
-        live: s.live,
-    }
-}
-
-/// One C call a turn, the state by value there and back.
-fn by_c_calls(start: Start, row: &[Call]) -> Tally {
-    let mut now = start.archive;
-    let mut sent = 0;
-    for &[kind, a, b, c, d, stamp] in row {
-        let turn = match kind {
-            1 => sys::presscurlew_sample_count(now, a, stamp),
-            2 => sys::presscurlew_offer(now, a, b, c, d, stamp),
-            _ => sys::presscurlew_poll(now, stamp),
-        };
-        now = turn.state;
-        sent += (turn.reply.kind == sys::SENT) as u64;
-    }
-    Tally {
-        state: state(now),
-        sent,
-    }
-}
-
-fn count(sent: &mut u64, answer: Answer) {
-    if let Answer::Sent(_) = answer {
-        *sent += 1;
-    }
-}
-
-fn valued(start: Start, row: &[Call]) -> Tally {
-    let (mut state, mut sent) = (start.plain, 0);
-    for &[kind, a, b, c, d, stamp] in row {
-        let (next, answer) = match kind {
-            1 => by_value::sample(state, a, stamp),
-            2 => by_value::offer(state, [a, b, c, d], stamp),
-            _ => by_value::poll(state, stamp),
-        };
-        state = next;
-        count(&mut sent, answer);
-    }
-    Tally { state, sent }
-}
-
-fn in_place(start: Start, row: &[Call]) -> Tally {
-    let (mut state, mut sent) = (start.plain, 0);
-    for &[kind, a, b, c, d, stamp] in row {
-        let answer = match kind {
-            1 => state.sample(a, stamp),
-            2 => state.offer([a, b, c, d], stamp),
-            _ => state.poll(stamp),
-        };
-        count(&mut sent, answer);
-    }
-    Tally { state, sent }
-}
 
 /// A mix of calls, on a gate made so.
 struct Mix {
@@ -239,7 +119,7 @@ fn sending(i: u32) -> [u32; 5] {
 fn sampled(i: u32) -> [u32; 5] {
     match i % 3 {
         0 => offered(i, 1_000_000),
-        1 => [1, i % 1001, 0, 0, 0],
+        1 => [1, i % 1001, 1_000, 0, 0],
         _ => POLL,
     }
 }
@@ -257,10 +137,9 @@ fn at_the_ceiling(i: u32) -> [u32; 5] {
 fn start(mix: &Mix, profile: u32) -> Start {
     let mut archive = sys::presscurlew_make(profile, mix.when_full, 0).state;
     for _ in 0..mix.quiet {
-        archive = sys::presscurlew_sample_count(archive, 0, 0).state;
+        archive = sys::presscurlew_sample_count(archive, 0, 1_000, 0).state;
     }
-    let plain = state(archive);
-    Start { archive, plain }
+    Start::of(archive)
 }
 
 fn row(mix: &Mix) -> Vec<Call> {
@@ -271,8 +150,6 @@ fn row(mix: &Mix) -> Vec<Call> {
         })
         .collect()
 }
-
-const SIDES: [Run<Start, Tally>; 4] = [rattle, by_c_calls, valued, in_place];
 
 /// The least and the greatest median of a place. Round by round the places take turns.
 fn spread(times: &[f64]) -> [f64; 2] {
@@ -290,14 +167,7 @@ fn spread(times: &[f64]) -> [f64; 2] {
 fn measure(mix: &Mix, profile: u32) -> [[f64; 2]; 4] {
     let (row, name) = (row(mix), mix.name);
     let start = start(mix, profile);
-    let ends = SIDES.map(|run| run(start, &row)).map(|mut end| {
-        end.state.gap = 0; // padding in the archive's state
-        end
-    });
-    for other in &ends[1..] {
-        assert!(ends[0].state == other.state, "{name}: the states differ");
-        assert_eq!(ends[0].sent, other.sent, "{name}: the admissions differ");
-    }
+    ends_alike(start, &row, name);
     let times = rounds(SIDES, start, &row, ROUNDS);
     let spreads = times.each_ref().map(|side| spread(side));
     let [ours, c, a, b] = times.map(median);
@@ -322,4 +192,17 @@ fn main() {
         print!("  {side} {least:.1} to {greatest:.1}");
     }
     println!();
+}
+
+#[cfg(test)]
+mod tests {
+    use super::*;
+
+    #[test]
+    fn sides_end_alike() {
+        for mix in &MIXES {
+            let profiles = mix.profiles.iter();
+            profiles.for_each(|&profile| ends_alike(start(mix, profile), &row(mix), mix.name));
+        }
+    }
 }

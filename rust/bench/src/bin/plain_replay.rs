@@ -43,7 +43,7 @@ fn line(out: &mut Vec<u8>, answer: Answer) {
 fn record(state: &mut State, bytes: &[u8], out: &mut Vec<u8>) {
     let stamp = word(bytes, 12);
     let answer = match bytes[0] {
-        0 if (1..=3).contains(&bytes[1]) && word(bytes, 4) <= 1 => {
+        0 if (1..=4).contains(&bytes[1]) && word(bytes, 4) <= 1 => {
             *state = State::new(bytes[1] as u32, word(bytes, 4), stamp);
             out.extend_from_slice(b"READY\n");
             return;
@@ -54,7 +54,13 @@ fn record(state: &mut State, bytes: &[u8], out: &mut Vec<u8>) {
         }
         4.. => Answer::Refused(10),
         _ if !state.is_sound() => Answer::Refused(9),
-        1 => state.sample(word(bytes, 8), stamp),
+        1 => {
+            let probes = match word(bytes, 4) {
+                0 => 1_000,
+                told => told,
+            };
+            state.sample(word(bytes, 8), probes, stamp)
+        }
         2 => {
             let ontime = u16::from_le_bytes([bytes[2], bytes[3]]) as u32;
             let numbers = [word(bytes, 8), bytes[1] as u32, ontime, word(bytes, 4)];

@@ -15,6 +15,7 @@ const CALLS: usize = 3000;
 const WORDS: u32 = 4;
 const COUNTED: u32 = 5;
 const SAMPLES: usize = 64;
+const PROBES: u32 = 1_000;
 
 /// What the host records to: it is written round and round.
 const LOG_BYTES: usize = 256 * sys::RECORD_BYTES;
@@ -43,9 +44,11 @@ impl End {
         let &[kind, a, b, c, d, stamp] = call;
         let turn = match kind {
             0 => sys::presscurlew_make(a, b, stamp),
-            1 => sys::presscurlew_sample_count(self.state, a, stamp),
+            1 => sys::presscurlew_sample_count(self.state, a, PROBES, stamp),
             2 => sys::presscurlew_offer(self.state, a, b, c, d, stamp),
-            WORDS | COUNTED => sys::sample_words(self.state, &start.samples[a as usize], stamp),
+            WORDS | COUNTED => {
+                sys::sample_words(self.state, PROBES, &start.samples[a as usize], stamp)
+            }
             _ => sys::presscurlew_poll(self.state, stamp),
         };
         self.state = turn.state;
@@ -53,9 +56,10 @@ impl End {
 
     /// A sample by the busy count in the record of its words.
     fn sample_recorded(&mut self, stamp: u32, index: usize) {
-        let busy = index * sys::RECORD_BYTES % LOG_BYTES + 8;
-        let bytes = self.log[busy..busy + 4].try_into().expect("4 bytes");
-        let turn = sys::presscurlew_sample_count(self.state, u32::from_le_bytes(bytes), stamp);
+        let at = index * sys::RECORD_BYTES % LOG_BYTES + 8;
+        let bytes = self.log[at..at + 4].try_into().expect("4 bytes");
+        let busy = u32::from_le_bytes(bytes);
+        let turn = sys::presscurlew_sample_count(self.state, busy, PROBES, stamp);
         self.state = turn.state;
     }
 
@@ -70,9 +74,11 @@ impl End {
         };
         let number = match kind {
             0 => sys::write_make(a, priority, stamp, log, at),
-            1 => sys::write_sample_count(a, stamp, log, at),
+            1 => sys::write_sample_count(a, PROBES, stamp, log, at),
             2 => sys::write_offer(offer, stamp, log, at),
-            WORDS | COUNTED => sys::write_sample_words(&start.samples[a as usize], stamp, log, at),
+            WORDS | COUNTED => {
+                sys::write_sample_words(PROBES, &start.samples[a as usize], stamp, log, at)
+            }
             _ => sys::write_poll(stamp, log, at),
         };
         assert_eq!(number, 0);
@@ -117,7 +123,7 @@ struct Mix {
 const MIXES: [Mix; 9] = [
     Mix {
         name: "make",
-        call: |i| [0, 1 + i % 3, i % 2, 0, 0],
+        call: |i| [0, 1 + i % 4, i % 2, 0, 0],
         step: 1_000,
     },
     Mix {

@@ -28,7 +28,7 @@ fn the_sample_is_kept() {
         "Run 1: profile 2, 0.050200 s, records 1 to 8",
         "accepted: 0 samples, 2 offers, 4 polls; refused: 1 CLOCK-BACK",
         "Counts     KEPT. 2 accepted = 1 sent + 0 expired + 0 displaced + 1 waiting at the end. They add up",
-        "Delivery   KEPT. No packet of priority 0 left.",
+        "Delivery   Not promised here: no packet of priority 0 left.",
         "Ceiling    KEPT. Closest call: one packet at 0.000200 s, with 400 µs of the 4,000 µs allowed.",
         "Second     KEPT. Closest call: one packet at 0.000200 s, with 400 µs of the 30 ms allowed in any second.",
         "KEPT. Latest CLOSED: 50 ms after an admission; from 1.0005 s on a poll sends.",
@@ -207,6 +207,38 @@ fn the_second_is_watched() {
     );
 }
 
+/// In profile 4 the ceiling is not promised, and KEPT is not said of it; the second is watched there too.
+#[test]
+fn no_ceiling_is_claimed_of_profile_4() {
+    let mut text = "make 4 at 0\n".to_string();
+    let mut out = "READY\n".to_string();
+    for id in 0..8 {
+        text += &format!("offer {id} priority 0 ontime 4000 lifetime 60s at +0\npoll at +0\n");
+        text += "sample 620 at +29ms\n";
+        out += &format!("TAKEN\nSENT {id}\nTAKEN\n");
+    }
+    let log = log_of(&text);
+    let right = out.replace("SENT 7", "CLOSED 797000") + "END\n";
+    assert_eq!(answers(&log), right);
+    let told = check(&log, &right).good().text();
+    for words in [
+        "Ceiling    Not promised in profile 4, where 25 ms after one packet the next may go.",
+        "Second     KEPT. Closest call: the 174 ms from 0.000000 s on, with 28 ms of the 30 ms allowed",
+        "Verdict: KEPT. Second and floor held throughout, and the ceiling where it is promised.",
+    ] {
+        assert!(told.contains(words), "no '{words}' in: {told}");
+    }
+    assert!(!told.contains("Ceiling    KEPT"), "{told}");
+    check(&log, &(out + "END\n"))
+        .failed(1, "second: 32 ms admitted in the second up to 0.203000 s");
+    // The same answers in profile 3 pass the ceiling.
+    let log = log_of(&text.replace("make 4", "make 3"));
+    check(&log, &right).failed(
+        1,
+        "ceiling: 8,000 µs of air time in 29 ms, where 4,870 µs is allowed",
+    );
+}
+
 /// Two packets nearer than any wait, so short that neither ceiling is passed.
 #[test]
 fn the_gap_is_watched() {
@@ -240,6 +272,7 @@ fn the_floor_is_watched() {
         (1, 1_000, 1_001_000),
         (2, 500, 1_000_500),
         (3, 4_000, 1_000_000),
+        (4, 4_000, 1_004_000),
     ] {
         let mut text = format!("make {profile} at 0\n");
         text += &"sample 1000 at +0\n".repeat(4);
@@ -303,7 +336,7 @@ fn displaced_packets_are_counted() {
         "Run 1: profile 1, 0.656400 s, records 1 to 17",
         "9 accepted = 6 sent + 1 expired + 2 displaced + 0 waiting at the end.",
         "2 packets displaced, none before 5 more of its own priority were taken.",
-        "Of priority 0, 5 went, 1 expired and 2 were displaced.",
+        "Delivery   KEPT. Of priority 0, 5 went, 1 expired and 2 were displaced; 5 were promised to go.",
     ] {
         assert!(text.contains(words), "no '{words}' in: {text}");
     }
@@ -317,7 +350,7 @@ fn displaced_packets_are_counted() {
         "Run 1: profile 1 keep-oldest, 0.656400 s, records 1 to 17",
         "refused: 2 QUEUE-FULL",
         "7 accepted = 6 sent + 1 expired + 0 displaced + 0 waiting at the end.",
-        "Of priority 0, 5 went, 1 expired and 0 were displaced.",
+        "Delivery   KEPT. Of priority 0, 5 went, 1 expired and 0 were displaced; 5 were promised to go.",
     ] {
         assert!(text.contains(words), "no '{words}' in: {text}");
     }
@@ -331,6 +364,52 @@ fn displaced_packets_are_counted() {
     );
     curlew(&["check", &keeps, &example("drop-oldest", "out")])
         .failed(1, "the answer is TAKEN, the right one is REFUSED 8");
+}
+
+/// A packet that does not live longer than its bound, here 1.001 s, was promised nothing: whether it went or not, KEPT
+/// is not said of it.
+#[test]
+fn delivery_is_kept_only_where_it_was_promised() {
+    let text = |lifetime: u32| {
+        format!(
+            "make 1 at 0\n\
+             offer 1 priority 0 ontime 9 lifetime {lifetime} at +0\npoll at +0\n\
+             offer 2 priority 0 ontime 9 lifetime 5 at +0\npoll at +5\n"
+        )
+    };
+    for (lifetime, words) in [
+        (
+            1_001_000,
+            "Delivery   Not promised here: none lived longer than the label's bound. \
+             Of priority 0, 1 went, 1 expired and 0 were displaced.",
+        ),
+        (
+            1_001_001,
+            "Delivery   KEPT. Of priority 0, 1 went, 1 expired and 0 were displaced; 1 was promised to go.",
+        ),
+    ] {
+        let log = log_of(&text(lifetime));
+        let told = check(&log, &answers(&log)).good().text();
+        assert!(told.contains(words), "no '{words}' in: {told}");
+    }
+}
+
+/// A sample is judged with the probes that it tells.
+#[test]
+fn the_probes_of_a_sample_are_judged() {
+    let text = "make 1 at 0\nsample 12500 of 12500 at +0\nsample 12501 of 12500 at +0\nsample 1001 at +0\n";
+    let log = log_of(text);
+    let out = answers(&log);
+    assert_eq!(out, "READY\nTAKEN\nREFUSED 4\nREFUSED 4\nEND\n");
+    let told = check(&log, &out).good().text();
+    assert!(
+        told.contains("1 sample, 0 offers, 0 polls; refused: 2 BAD-SAMPLE"),
+        "{told}"
+    );
+    check(&log, &out.replacen("REFUSED 4", "TAKEN", 1)).failed(
+        1,
+        "record 3 (sample 12501 of 12500 at 0): the answer is TAKEN, the right one is REFUSED 4",
+    );
 }
 
 /// A gate that displaces the newest of five, or one of another queue, sends what it should not.

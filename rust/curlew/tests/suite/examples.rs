@@ -93,13 +93,64 @@ fn the_eighth_packet_waits_until_the_first_is_a_second_old() {
     assert_eq!(out.matches("SENT 1").count(), 43, "1, and 101 to 142");
 }
 
+/// What the new radio is there to show: one busy probe of 12,500 moves the level.
+#[test]
+fn with_many_probes_a_threshold_is_met_to_the_probe() {
+    let text = curlew(&["show", &example("new-radio", "log")])
+        .good()
+        .text();
+    for (call, level) in [
+        ("sample, 3,749 of 12,500 busy", "level 0, 100 ms"),
+        ("sample, 3,750 of 12,500 busy", "level 1, 200 ms"),
+        ("sample, 7,501 of 12,500 busy", "level 4, 1 s"),
+        ("sample, 600 of 1,000 busy", "level 3, 500 ms"),
+        ("sample, 601 of 1,000 busy", "level 4, 1 s"),
+    ] {
+        let row = text.lines().find(|line| line.contains(call)).unwrap();
+        assert!(row.ends_with(level), "{row}");
+    }
+    for call in ["12,501 of 12,500", "0 of 12,501", "2 of 1 busy"] {
+        let row = text.lines().find(|line| line.contains(call)).unwrap();
+        assert!(row.contains("REFUSED 4 BAD-SAMPLE"), "{row}");
+    }
+}
+
+/// What the log from abroad is there to show: the threshold, the second without a ceiling, and the floor.
+#[test]
+fn abroad_the_wait_goes_by_the_latest_load() {
+    let text = curlew(&["show", &example("abroad", "log")]).good().text();
+    for (call, wait) in [
+        ("sample, 7,750 of 12,500 busy", "load 62.000 %, 25 ms"),
+        ("sample, 7,751 of 12,500 busy", "load 62.008 %, 25 ms"),
+        ("sample, 7,763 of 12,500 busy", "load 62.104 %, 48 ms"),
+        ("sample, 8,750 of 12,500 busy", "load 70.000 %, 1 s"),
+    ] {
+        let row = text.lines().find(|line| line.contains(call)).unwrap();
+        assert!(row.ends_with(wait), "{row}");
+    }
+    assert!(text.contains("CLOSED 797000, second full"), "{text}");
+    let check = curlew(&[
+        "check",
+        &example("abroad", "log"),
+        &example("abroad", "out"),
+    ]);
+    let text = check.good().text();
+    for words in [
+        "Latest CLOSED: 1.003999 s after an admission; from 1.004 s on a poll sends.",
+        "Of priority 0, 9 went, 0 expired and 0 were displaced; 9 were promised",
+        "the 174 ms from 3.000000 s on, with 28 ms of the 30 ms allowed",
+    ] {
+        assert!(text.contains(words), "no '{words}' in: {text}");
+    }
+}
+
 /// What the jam is there to show.
 #[test]
 fn in_the_jam_a_warning_goes_each_second() {
     let check = curlew(&["check", &example("jam", "log"), &example("jam", "out")]);
     let text = check.good().text();
     assert!(
-        text.contains("Of priority 0, 13 went, 0 expired and 0 were displaced."),
+        text.contains("Of priority 0, 13 went, 0 expired and 0 were displaced; 13 were promised"),
         "{text}"
     );
     assert!(text.contains("none went: 1.02 s,"), "{text}");

@@ -113,13 +113,15 @@ impl Drop for Folder {
 }
 
 /// The names of the example logs.
-pub const EXAMPLES: [&str; 8] = [
+pub const EXAMPLES: [&str; 10] = [
     "sample",
     "quiet-morning",
     "jam",
     "drop-oldest",
     "keep-oldest",
     "any-second",
+    "new-radio",
+    "abroad",
     "clock-wrap",
     "damaged-tail",
 ];

@@ -42,8 +42,8 @@ fn each_example_has_a_picture_that_explains_itself() {
             "Packets waiting, by priority",
             "Packets sent (on-time, ms)",
             "Time since the last packet went (s)",
-            "Air time in the second before (ms)",
-            "ceiling, guaranteed: never above 30 ms in any second",
+            "On-time admitted in the last second (ms)",
+            "limit, guaranteed: at most 30 ms are admitted in any second",
             "floor, guaranteed: a poll on or above this line sends",
             "running time (",
             "priority 0 (highest)",
@@ -52,7 +52,14 @@ fn each_example_has_a_picture_that_explains_itself() {
         }
         let reactive = svg.contains("Level, and the wait that it asks for");
         let adaptive = svg.contains("Duty (% of the time that may be on air)");
-        assert!(reactive != adaptive);
+        let harmonised = svg.contains("Wait after the last packet (s), by the latest load");
+        let kinds = [reactive, adaptive, harmonised];
+        assert_eq!(kinds.iter().filter(|kind| **kind).count(), 1, "{name}");
+        assert_eq!(harmonised, name == "abroad");
+        assert_eq!(
+            harmonised,
+            svg.contains("dotted: 62 %, above which the wait grows")
+        );
         let adapts = ["quiet-morning", "any-second", "damaged-tail"];
         assert_eq!(adaptive, adapts.contains(&name));
     }
@@ -164,4 +171,22 @@ fn a_long_run() {
     let svg = std::fs::read_to_string(&svg).unwrap();
     assert_well_formed(&svg);
     assert!(svg.len() < 2_000_000, "{}", svg.len());
+}
+
+/// The load is drawn, and not the busy count: half of 12,500 probes is as high as half of 1,000.
+#[test]
+fn the_load_of_any_probes_has_the_same_place() {
+    let drawn = |sample: &str| {
+        let folder = Folder::new();
+        let text = format!("make 1 at 0\n{sample} at +5ms\npoll at +9ms\n");
+        let (log, svg) = (folder.path("a.log"), folder.path("a.svg"));
+        let text = folder.file("a.txt", text);
+        curlew(&["write", &text, "-o", &log]).good();
+        curlew(&["plot", &log, "-o", &svg]).good();
+        std::fs::read_to_string(&svg).unwrap()
+    };
+    let half = drawn("sample 500");
+    assert_eq!(drawn("sample 6250 of 12500"), half);
+    assert_eq!(drawn("sample 1 of 2"), half);
+    assert_ne!(drawn("sample 500 of 12500"), half);
 }

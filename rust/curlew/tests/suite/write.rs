@@ -33,6 +33,18 @@ fn the_way_of_a_make() {
     assert_eq!(written("make 2 way 256 at 7\n"), other);
 }
 
+/// A sample without a word on its probes is what it was, and 1,000 are the same.
+#[test]
+fn the_probes_of_a_sample() {
+    let written = |text: &str| curlew_fed(&["write"], text.as_bytes()).good().out;
+    let plain = written("sample 3 at 7\n");
+    assert_eq!(plain, [1, 0, 0, 0, 0, 0, 0, 0, 3, 0, 0, 0, 7, 0, 0, 0]);
+    assert_eq!(written("sample 3 of 1000 at 7\n"), plain);
+    let many = [1, 0, 0, 0, 0xD4, 0x30, 0, 0, 3, 0, 0, 0, 7, 0, 0, 0];
+    assert_eq!(written("sample 3 of 12500 at 7\n"), many);
+    curlew_fed(&["write"], b"sample 3 of 0 at 7\n").failed(2, "no record says 0 probes");
+}
+
 #[test]
 fn an_empty_text_is_an_empty_log() {
     assert_eq!(curlew_fed(&["write"], b"").good().out, b"");

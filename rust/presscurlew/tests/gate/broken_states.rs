@@ -16,13 +16,14 @@ use reference::state::{broken_rules, rule_names, sound, Admission, Counts, Packe
 const TIME: u64 = 5_000_000_000;
 
 /// A sound state with this many packets in each queue, and the more admissions the more packets; profile 3 keeps a
-/// sample. With an odd number a full queue refuses, with an even one it drops its oldest.
+/// sample, and profile 4 has had one. With an odd number a full queue refuses, with an even one it drops its oldest.
 fn base(profile: u32, length: usize) -> State {
     let ontime = rules::on_time_max(profile).unwrap();
     let mut state = State::fresh(profile, length as u32 % 2, 77);
     state.time = TIME;
     state.haskept = profile == 3;
     state.kept = if state.haskept { 400_000 } else { 0 };
+    state.latest = if profile == 4 { 700_000 } else { 0 };
     let admissions = row(1 + 7 * length as u64, 25_000, ontime.min(750), TIME - 10);
     for priority in 0..4 {
         let packet = Packet {
@@ -78,8 +79,8 @@ impl Broken {
     fn profile_and_tuning(&mut self, profile: u32) {
         let (empty, full) = (State::fresh(profile, 0, 77), base(profile, 5));
         self.add("live", full, |s| s.live = false);
-        for bad in [0, 4, 5, 1 << 31, u32::MAX] {
-            self.add("profile 1 to 3", empty, |s| s.profile = bad);
+        for bad in [0, 5, 6, 256 + profile, 1 << 31, u32::MAX] {
+            self.add("profile 1 to 4", empty, |s| s.profile = bad);
         }
         for bad in [2, 3, 256, 1 << 31, u32::MAX] {
             self.add("old way 0 or 1", empty, |s| s.oldway = bad);
@@ -110,6 +111,23 @@ impl Broken {
                 self.add("sample kept only in profile 3", full, |s| {
                     (s.haskept, s.kept) = (true, kept)
                 });
+            }
+        }
+    }
+
+    /// The latest load, which is zero but in profile 4.
+    fn latest(&mut self, profile: u32) {
+        for state in [State::fresh(profile, 0, 77), base(profile, 5)] {
+            if profile == 4 {
+                for bad in [1_000_001, 1_000_002, 1 << 20, 1 << 31, u32::MAX] {
+                    self.add("latest load at most 1,000,000", state, |s| s.latest = bad);
+                }
+            } else {
+                for bad in [1, 255, 256, 620_000, 1 << 19, 1_000_000] {
+                    self.add("latest load zero outside profile 4", state, |s| {
+                        s.latest = bad
+                    });
+                }
             }
         }
     }
@@ -239,6 +257,7 @@ impl Broken {
         let mut rng = Rng::new(0xc0c7);
         for profile in PROFILES {
             broken.profile_and_tuning(profile);
+            broken.latest(profile);
             broken.clock_and_last(profile);
             broken.lengths(profile);
             broken.counts(State::fresh(profile, 0, 77), &mut rng);
@@ -318,7 +337,7 @@ fn ledgers_of_wild_numbers_are_refused_with_9() {
             }
         }
     }
-    assert!(refused > 3 * 8 * 40 * 7, "only {refused}");
+    assert!(refused > 4 * 8 * 40 * 7, "only {refused}");
 }
 
 #[test]

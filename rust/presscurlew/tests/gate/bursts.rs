@@ -379,7 +379,11 @@ fn runs_with_bursts() {
             let stamp = state.stamp.wrapping_add(rng.below(60_000) as u32);
             let busy = rng.below(1_001) as u32;
             let call = match rng.below(4) {
-                0 => Call::SampleCount { busy, stamp },
+                0 => Call::SampleCount {
+                    busy,
+                    probes: 1_000,
+                    stamp,
+                },
                 _ => Call::Poll { stamp },
             };
             let (next, answer) = hold(&state, &call, &origin);

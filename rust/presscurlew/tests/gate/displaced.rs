@@ -249,7 +249,11 @@ fn ways_differ_in_full_queues_alone() {
         let stamp = state.stamp.wrapping_add(rng.below(2_000_000) as u32);
         let call = match rng.below(5) {
             0 => Call::Poll { stamp },
-            1 => Call::SampleCount { busy: 700, stamp },
+            1 => Call::SampleCount {
+                busy: 700,
+                probes: 1_000,
+                stamp,
+            },
             _ => new_offer(rng.below(4) as u32, stamp),
         };
         let origin = format!("sound state {index}");

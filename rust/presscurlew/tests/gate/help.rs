@@ -14,7 +14,7 @@ use reference::writer;
 pub use reference::gate::{Answer, Call};
 pub use reference::log::LogCall;
 
-pub const PROFILES: [u32; 3] = [1, 2, 3];
+pub const PROFILES: [u32; 4] = [1, 2, 3, 4];
 /// What a gate does when a queue is full.
 pub const WAYS: [u32; 2] = [sys::DROP_OLDEST, sys::REFUSE_NEW];
 /// The same, as `Gate` has it.
@@ -30,7 +30,7 @@ pub const TIME_END: u64 = 1_000_000_000_000_000;
 /// The most offers that a state accepts.
 pub const ACCEPTED_MOST: u64 = 1_000_000_000_000_000;
 
-/// Numbers at which a priority, an on-time, a lifetime or a busy count turns good or bad.
+/// Numbers at which a priority, an on-time, a lifetime, a busy count or a probe count turns good or bad.
 pub const EDGE_PRIORITIES: [u32; 8] = [0, 1, 2, 3, 4, 5, 1 << 31, u32::MAX];
 pub const EDGE_ONTIMES: [u32; 11] = [0, 1, 2, 499, 500, 501, 1_000, 1_001, 4_000, 4_001, u32::MAX];
 pub const EDGE_LIFETIMES: [u32; 8] = [
@@ -61,6 +61,32 @@ pub const EDGE_COUNTS: [u32; 18] = [
     1_000,
     1_001,
     1_002,
+    u32::MAX,
+];
+pub const EDGE_PROBES: [u32; 24] = [
+    0,
+    1,
+    2,
+    3,
+    63,
+    64,
+    65,
+    127,
+    128,
+    129,
+    960,
+    961,
+    999,
+    1_000,
+    1_001,
+    1_024,
+    12_479,
+    12_480,
+    12_481,
+    12_499,
+    12_500,
+    12_501,
+    1 << 31,
     u32::MAX,
 ];
 /// Steps at which the clock wraps, stands still, or goes back.
@@ -120,6 +146,7 @@ pub fn raw(state: &State) -> sys::State {
             smoothed: state.smoothed,
             kept: state.kept,
             pairing: u32::from(state.haskept),
+            latest: state.latest,
         },
         profile: state.profile,
         oldway: state.oldway,
@@ -157,13 +184,21 @@ pub fn raw_reply(answer: &Answer) -> sys::Reply {
 /// A call on the archive. Words that it is lent stay as they are.
 pub fn archive(state: sys::State, call: &Call) -> sys::Turn {
     match *call {
-        Call::SampleWords { ref words, stamp } => {
+        Call::SampleWords {
+            probes,
+            ref words,
+            stamp,
+        } => {
             let lent = words.clone();
-            let turn = sys::sample_words(state, &lent, stamp);
+            let turn = sys::sample_words(state, probes, &lent, stamp);
             assert_eq!(lent, *words, "lent words were written to");
             turn
         }
-        Call::SampleCount { busy, stamp } => sys::presscurlew_sample_count(state, busy, stamp),
+        Call::SampleCount {
+            busy,
+            probes,
+            stamp,
+        } => sys::presscurlew_sample_count(state, busy, probes, stamp),
         Call::Offer {
             id,
             priority,
@@ -334,15 +369,21 @@ pub fn archive_write(call: &LogCall, log: &mut [u8], at: usize) -> u32 {
             oldway,
             stamp,
         } => sys::write_make(profile, oldway, stamp, log, at),
-        LogCall::On(Call::SampleWords { ref words, stamp }) => {
+        LogCall::On(Call::SampleWords {
+            probes,
+            ref words,
+            stamp,
+        }) => {
             let lent = words.clone();
-            let number = sys::write_sample_words(&lent, stamp, log, at);
+            let number = sys::write_sample_words(probes, &lent, stamp, log, at);
             assert_eq!(lent, *words, "lent words were written to");
             number
         }
-        LogCall::On(Call::SampleCount { busy, stamp }) => {
-            sys::write_sample_count(busy, stamp, log, at)
-        }
+        LogCall::On(Call::SampleCount {
+            busy,
+            probes,
+            stamp,
+        }) => sys::write_sample_count(busy, probes, stamp, log, at),
         LogCall::On(Call::Offer {
             id,
             priority,
@@ -378,10 +419,10 @@ pub fn hold_write(call: &LogCall, room: usize, at: usize, origin: &dyn Display) 
     number
 }
 
-/// Sixteen words with the first `busy` probes busy.
-pub fn first_busy(busy: usize) -> Vec<u64> {
-    let mut words = vec![0; 16];
-    for k in 0..busy {
+/// Just enough words for so many probes, of which the first `busy` are busy.
+pub fn first_busy(probes: u32, busy: u32) -> Vec<u64> {
+    let mut words = vec![0; probes.div_ceil(64) as usize];
+    for k in 0..busy as usize {
         words[k / 64] |= 1 << (k % 64);
     }
     words
@@ -392,17 +433,24 @@ pub fn calls_at(profile: u32, stamp: u32) -> Vec<Call> {
     let ontime = rules::on_time_max(profile).unwrap_or(1);
     let mut calls = vec![
         Call::Poll { stamp },
-        Call::SampleCount { busy: 550, stamp },
-        Call::SampleCount { busy: 1_001, stamp },
         Call::SampleWords {
-            words: first_busy(700),
+            probes: 1_000,
+            words: first_busy(1_000, 700),
             stamp,
         },
         Call::SampleWords {
+            probes: 1_000,
             words: vec![0; 15],
             stamp,
         },
     ];
+    for (busy, probes) in [(550, 1_000), (1_001, 1_000), (7_751, 12_500), (0, 0)] {
+        calls.push(Call::SampleCount {
+            busy,
+            probes,
+            stamp,
+        });
+    }
     for priority in 0..5 {
         calls.push(Call::Offer {
             id: 9,
@@ -438,18 +486,44 @@ pub fn edge_or(rng: &mut Rng, edges: &[u32], most: u32) -> u32 {
     }
 }
 
-/// A sample by words: mostly a good one of any density, else of a bad length or with a stray bit.
-pub fn random_words(rng: &mut Rng) -> Vec<u64> {
-    let length = match rng.below(12) {
+/// A probe count: mostly a good one, few or 1,000, now and then up to the most.
+fn random_probes(rng: &mut Rng) -> u32 {
+    match rng.below(16) {
+        0 => rng.pick(&EDGE_PROBES),
+        1 => 1 + rng.below(12_500) as u32,
+        2..=8 => 1_000,
+        _ => 1 + rng.below(200) as u32,
+    }
+}
+
+/// A sample by count, busy and probes: mostly a good one.
+pub fn random_count(rng: &mut Rng) -> (u32, u32) {
+    let probes = random_probes(rng);
+    let edges = [0, 1, probes, probes.wrapping_add(1), u32::MAX];
+    let busy = match rng.below(8) {
+        0 => rng.pick(&edges),
+        1 | 2 => rng.pick(&EDGE_COUNTS),
+        _ => rng.below(u64::from(probes) + 1) as u32,
+    };
+    (busy, probes)
+}
+
+/// A sample by words, with its probe count: mostly a good one of any density, else of a bad length or with stray bits.
+pub fn random_words(rng: &mut Rng) -> (u32, Vec<u64>) {
+    let probes = random_probes(rng);
+    let enough = probes.div_ceil(64).min(300) as usize;
+    let length = match rng.below(24) {
         0 => rng.below(40) as usize,
-        _ => 16,
+        1 => enough + 1,
+        2 => enough.saturating_sub(1),
+        _ => enough,
     };
     let density = rng.below(5);
     let mut words: Vec<u64> = (0..length).map(|_| random_word(rng, density)).collect();
-    if length == 16 && !rng.one_in(12) {
-        words[15] &= (1 << 40) - 1;
+    if let (Some(last), false, 1..) = (words.last_mut(), rng.one_in(12), probes % 64) {
+        *last &= (1 << (probes % 64)) - 1;
     }
-    words
+    (probes, words)
 }
 
 fn random_word(rng: &mut Rng, density: u64) -> u64 {

@@ -27,7 +27,7 @@ fn structs_lie_as_c_sees_them() {
     layout!(text, "clock", Clock, time, stamp);
     layout!(text, "last", Last, at, ontime, admitted);
     layout!(text, "counts", Counts, accepted, sent, expired, displaced);
-    layout!(text, "tuning", Tuning, level, duty, smoothed, kept, pairing);
+    layout!(text, "tuning", Tuning, level, duty, smoothed, kept, pairing, latest);
     layout!(
         text, "state", State, queues, ledger, clock, last, counts, tuning, profile, oldway, live
     );

@@ -7,7 +7,8 @@
 //! - `displaced`: what an offer does to a full queue
 //! - `second`: thirty milliseconds in any second
 //! - `refusals`: which refusal comes first, and that it changes nothing
-//! - `samples`: the busy count of words
+//! - `samples`: the busy count of words, and the load
+//! - `harmonised`: profile 4, which goes by the latest load
 //! - `sample_log`: the requirement's own log
 //! - `safe`: what `Gate` makes of the archive's calls
 //! - `writer`: calls written to a log
@@ -16,6 +17,7 @@
 mod broken_states;
 mod bursts;
 mod displaced;
+mod harmonised;
 mod help;
 mod layout;
 mod refusals;

@@ -106,36 +106,62 @@ fn offers_are_refused_in_order() {
 
 #[test]
 fn samples_are_refused_in_order() {
-    let stray = |bit: u32| {
-        let mut words = first_busy(3);
-        words[15] |= 1 << bit;
-        words
-    };
     each_place(|_, state, stamp, early| {
-        for (busy, four) in [(0, 0), (1_000, 0), (1_001, 4), (u32::MAX, 4)] {
-            hold_number(
-                state,
-                &Call::SampleCount { busy, stamp },
-                first(&[early, four]),
-            );
+        for (busy, probes, four) in COUNTS {
+            let call = Call::SampleCount {
+                busy,
+                probes,
+                stamp,
+            };
+            hold_number(state, &call, first(&[early, four]));
         }
-        let lengths = (0..40).filter(|&length| length != 16);
-        let mut samples: Vec<(Vec<u64>, u32)> =
-            lengths.map(|length| (vec![0; length], 4)).collect();
-        samples.extend([
-            (first_busy(0), 0),
-            (first_busy(1_000), 0),
-            (vec![u64::MAX; 16], 4),
-        ]);
-        samples.extend((0..64).map(|bit| (stray(bit), if bit < 40 { 0 } else { 4 })));
-        for (words, four) in samples {
-            hold_number(
-                state,
-                &Call::SampleWords { words, stamp },
-                first(&[early, four]),
-            );
+        for (probes, words, four) in samples() {
+            let call = Call::SampleWords {
+                probes,
+                words,
+                stamp,
+            };
+            hold_number(state, &call, first(&[early, four]));
         }
     });
+}
+
+/// Busy and probe counts with the number of their refusal.
+const COUNTS: [(u32, u32, u32); 14] = [
+    (0, 1_000, 0),
+    (1_000, 1_000, 0),
+    (1_001, 1_000, 4),
+    (u32::MAX, 1_000, 4),
+    (0, 1, 0),
+    (1, 1, 0),
+    (2, 1, 4),
+    (0, 0, 4),
+    (1, 0, 4),
+    (12_500, 12_500, 0),
+    (12_501, 12_500, 4),
+    (0, 12_501, 4),
+    (1, u32::MAX, 4),
+    (u32::MAX, u32::MAX, 4),
+];
+
+/// Probe counts and words with the number of their refusal.
+fn samples() -> Vec<(u32, Vec<u64>, u32)> {
+    let mut samples = vec![(0, vec![], 4), (0, vec![0], 4), (u32::MAX, vec![], 4)];
+    // Words, and the bits of the last that are probes.
+    for (probes, enough, bits) in [(1_000, 16, 40), (1, 1, 1), (64, 1, 64), (12_500, 196, 20)] {
+        let lengths = (0..enough + 24).filter(|&length| length != enough);
+        samples.extend(lengths.map(|length| (probes, vec![0; length], 4)));
+        samples.push((probes, first_busy(probes, 0), 0));
+        samples.push((probes, first_busy(probes, probes), 0));
+        samples.extend((0..64).map(|bit| {
+            let mut words = vec![0; enough];
+            words[enough - 1] |= 1 << bit;
+            (probes, words, if bit < bits { 0 } else { 4 })
+        }));
+    }
+    // Enough words for 12,501 probes, and for 0.
+    samples.extend([(12_501, vec![0; 196], 4), (12_544, vec![0; 196], 4)]);
+    samples
 }
 
 #[test]

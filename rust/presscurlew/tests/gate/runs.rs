@@ -3,8 +3,8 @@
 use std::fmt;
 
 use crate::help::{
-    edge_or, hold, random_words, raw, raw_reply, Answer, Call, ACCEPTED_MOST, EDGE_COUNTS,
-    EDGE_LIFETIMES, EDGE_ONTIMES, EDGE_PRIORITIES, EDGE_STEPS, PROFILES, TIME_END, WAYS,
+    hold, random_count, random_words, raw, raw_reply, Answer, Call, ACCEPTED_MOST, EDGE_LIFETIMES,
+    EDGE_ONTIMES, EDGE_PRIORITIES, EDGE_STEPS, PROFILES, TIME_END, WAYS,
 };
 use presscurlew::sys;
 use reference::book::Book;
@@ -118,8 +118,7 @@ impl Caller {
             turns.extend(expiries.map(|packet| packet.arrival + u64::from(packet.lifetime)));
         }
         if state.any {
-            let closed = rules::closed_for(state.profile, state.level, state.duty, state.ontime);
-            turns.push(state.at + closed.unwrap());
+            turns.push(state.at + closed_for(state));
         }
         let admissions = state.ledger.held().iter();
         turns.extend(admissions.map(|admission| admission.at + rules::SECOND));
@@ -133,11 +132,9 @@ impl Caller {
 
     fn sample(&mut self, stamp: u32) -> Call {
         if self.rng.one_in(3) {
-            let words = random_words(&mut self.rng);
-            return Call::SampleWords { words, stamp };
+            return by_words(&mut self.rng, stamp);
         }
-        let busy = edge_or(&mut self.rng, &EDGE_COUNTS, 1_000);
-        Call::SampleCount { busy, stamp }
+        by_count(&mut self.rng, stamp)
     }
 
     fn offer(&mut self, profile: u32, stamp: u32) -> Call {
@@ -156,6 +153,37 @@ impl Caller {
             stamp,
         }
     }
+}
+
+fn by_words(rng: &mut Rng, stamp: u32) -> Call {
+    let (probes, words) = random_words(rng);
+    Call::SampleWords {
+        probes,
+        words,
+        stamp,
+    }
+}
+
+fn by_count(rng: &mut Rng, stamp: u32) -> Call {
+    let (busy, probes) = random_count(rng);
+    Call::SampleCount {
+        busy,
+        probes,
+        stamp,
+    }
+}
+
+/// How long the gate is closed after the last admission, by the reference.
+pub fn closed_for(state: &State) -> u64 {
+    let &State {
+        profile,
+        level,
+        duty,
+        ontime,
+        latest,
+        ..
+    } = state;
+    rules::closed_for(profile, level, duty, ontime, latest).expect("a sound state's numbers")
 }
 
 /// How often each answer came.
@@ -291,6 +319,11 @@ fn runs_of_profile_3() {
     runs(3);
 }
 
+#[test]
+fn runs_of_profile_4() {
+    runs(4);
+}
+
 /// Runs from states that are fresh but for their counts, with so many offers left: then offers are refused, and
 /// all else goes on.
 #[test]
@@ -328,12 +361,22 @@ fn runs_that_spend_their_offers() {
 /// In each profile a run with the longest wait after the longest on-time: closed to the last µs before the floor.
 #[test]
 fn runs_that_reach_the_floor() {
-    for (profile, floor) in [(1, 1_001_000), (2, 1_000_500), (3, 1_000_000)] {
+    for (profile, floor) in [
+        (1, 1_001_000),
+        (2, 1_000_500),
+        (3, 1_000_000),
+        (4, 1_004_000),
+    ] {
         let mut state = made(profile, sys::DROP_OLDEST, 0);
         let mut asked = vec![];
         if profile != 3 {
-            let (busy, stamp) = (1_000, 0);
-            asked = vec![Call::SampleCount { busy, stamp }; 4];
+            let (busy, probes, stamp) = (12_500, 12_500, 0);
+            let loud = Call::SampleCount {
+                busy,
+                probes,
+                stamp,
+            };
+            asked = vec![loud; 4];
         }
         let (priority, lifetime, stamp) = (0, 60_000_000, 0);
         let ontime = rules::on_time_max(profile).unwrap();
@@ -362,7 +405,7 @@ fn runs_that_reach_the_floor() {
     }
 }
 
-/// A make of any profile, way and stamp: only 1 to 3 in a known way are ready, else the all-zero state comes back.
+/// A make of any profile, way and stamp: only 1 to 4 in a known way are ready, else the all-zero state comes back.
 #[test]
 fn makes() {
     let stamps = [0, 1, 1 << 31, u32::MAX];
@@ -409,14 +452,8 @@ fn run_to_the_end_of_time() {
 fn end_call(rng: &mut Rng, profile: u32, stamp: u32) -> Call {
     let ontime = rules::on_time_max(profile).unwrap();
     match rng.below(4) {
-        0 => Call::SampleCount {
-            busy: rng.below(1_001) as u32,
-            stamp,
-        },
-        1 => Call::SampleWords {
-            words: random_words(rng),
-            stamp,
-        },
+        0 => by_count(rng, stamp),
+        1 => by_words(rng, stamp),
         2 => Call::Offer {
             id: 1,
             priority: rng.below(4) as u32,

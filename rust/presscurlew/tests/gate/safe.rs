@@ -1,8 +1,7 @@
 //! `Gate` hands on what the archive answers, and keeps the state.
 
 use crate::help::{
-    edge_or, random_words, raw, raw_counts, Answer, Call, EDGE_COUNTS, EDGE_STEPS, PROFILES,
-    WHEN_FULL,
+    random_count, random_words, raw, raw_counts, Answer, Call, EDGE_STEPS, PROFILES, WHEN_FULL,
 };
 use presscurlew::{Gate, Offer, Packet, Refusal, WhenFull};
 use reference::book::Book;
@@ -12,8 +11,16 @@ use reference::rng::Rng;
 /// What a call on a `Gate` says, in the reference's words.
 fn said(gate: &mut Gate, call: &Call) -> Answer {
     let answer = match *call {
-        Call::SampleWords { ref words, stamp } => taken(gate.sample_words(words, stamp)),
-        Call::SampleCount { busy, stamp } => taken(gate.sample_count(busy, stamp)),
+        Call::SampleWords {
+            probes,
+            ref words,
+            stamp,
+        } => taken(gate.sample_words(probes, words, stamp)),
+        Call::SampleCount {
+            busy,
+            probes,
+            stamp,
+        } => taken(gate.sample_count(busy, probes, stamp)),
         Call::Offer {
             id,
             priority,
@@ -67,14 +74,22 @@ fn any_call(rng: &mut Rng, last: u32) -> Call {
     };
     let stamp = last.wrapping_add(step);
     match rng.below(8) {
-        0 => Call::SampleWords {
-            words: random_words(rng),
-            stamp,
-        },
-        1 => Call::SampleCount {
-            busy: edge_or(rng, &EDGE_COUNTS, 1_000),
-            stamp,
-        },
+        0 => {
+            let (probes, words) = random_words(rng);
+            Call::SampleWords {
+                probes,
+                words,
+                stamp,
+            }
+        }
+        1 => {
+            let (busy, probes) = random_count(rng);
+            Call::SampleCount {
+                busy,
+                probes,
+                stamp,
+            }
+        }
         2..=4 => Call::Offer {
             id: rng.next_u32(),
             priority: rng.below(5) as u32,
@@ -129,7 +144,7 @@ fn ways_have_their_numbers() {
 
 #[test]
 fn bad_profiles_make_no_gate() {
-    for profile in [0, 4, u32::MAX] {
+    for profile in [0, 5, u32::MAX] {
         for way in WHEN_FULL {
             assert_eq!(Gate::new(profile, way, 0), Err(Refusal::BadProfile));
         }

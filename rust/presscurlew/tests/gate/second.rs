@@ -7,7 +7,7 @@ use crate::broken_states::ledger_states;
 use crate::help::{
     archive, calls_at, first_busy, hold, hold_burst, raw, raw_reply, Answer, Call, PROFILES,
 };
-use crate::runs::made;
+use crate::runs::{closed_for, made};
 use presscurlew::{sys, Gate, Offer, WhenFull};
 use reference::book::Book;
 use reference::ledgers;
@@ -94,6 +94,15 @@ fn the_second_binds_in_every_profile_that_can_fill_it() {
     opens_in(&waiting(3, 751, &fullest), 25_000);
     opens_in(&waiting(3, 1_501, &fullest), 50_000);
     opens_in(&waiting(3, 4_000, &fullest), 125_000);
+
+    // Profile 4 waits from the packet's end: of 25,000 µs since the last one's start, 750 are missing.
+    opens_in(&waiting(4, 750, &fullest), 750);
+    opens_in(&waiting(4, 751, &fullest), 25_000);
+    // Where the channel is calm it fills the second within 203 ms, and is then closed for the rest of it.
+    let quick = ages(7, 29_000, 4_000, 29_000);
+    opens_in(&waiting(4, 2_000, &quick), 0);
+    opens_in(&waiting(4, 2_001, &quick), 797_000);
+    opens_in(&waiting(4, 4_000, &quick), 797_000);
 }
 
 /// An admission counts up to 999,999 µs of age, and no longer.
@@ -129,16 +138,29 @@ fn the_greater_of_wait_and_ageing() {
         state.level = level;
         opens_in(&state, left);
     }
+    // In profile 4 too: 100,000 µs after 4,000 on air, of which 12, 50, 158 and 1,519 times as many are asked.
+    let mut state = waiting(4, 4_000, &ages(7, 29_000, 4_000, 100_000));
+    for (latest, left) in [
+        (0, 726_000),
+        (622_000, 726_000),
+        (640_000, 726_000),
+        (645_600, 726_000),
+        (1_000_000, 904_000),
+    ] {
+        state.latest = latest;
+        opens_in(&state, left);
+    }
 }
 
 /// The wait may be longer than the second: then the ledger is empty, and the last admission closes the gate still.
 #[test]
 fn the_last_admission_outlives_the_ledger() {
-    for (profile, floor) in [(1, 1_001_000), (2, 1_000_500)] {
+    for (profile, floor) in [(1, 1_001_000), (2, 1_000_500), (4, 1_004_000)] {
         let ontime = rules::on_time_max(profile).unwrap();
         for age in [999_999, 1_000_000, floor - 1] {
             let mut state = waiting(profile, 1, &[(age, ontime)]);
             state.level = 4;
+            state.latest = if profile == 4 { 1_000_000 } else { 0 };
             assert_eq!(state.ledger.len, u64::from(age < 1_000_000));
             opens_in(&state, floor - age);
         }
@@ -179,8 +201,7 @@ fn wait_left(state: &State) -> u64 {
     let Some(last) = state.last() else {
         return 0;
     };
-    let closed = rules::closed_for(state.profile, state.level, state.duty, last.ontime);
-    closed.unwrap().saturating_sub(state.time - last.at)
+    closed_for(state).saturating_sub(state.time - last.at)
 }
 
 /// Admissions as close together as they may be, which fill most of the second or all of it.
@@ -196,7 +217,7 @@ fn crowded(rng: &mut Rng, profile: u32) -> Vec<Admission> {
 #[test]
 fn closed_is_the_smallest_wait() {
     let mut rng = Rng::new(0x5ec0);
-    let mut bound = [0; 4];
+    let mut bound = [0; 5];
     for _ in 0..10_000 {
         let profile = rng.pick(&PROFILES);
         let most = rules::on_time_max(profile).unwrap();
@@ -204,6 +225,9 @@ fn closed_is_the_smallest_wait() {
         let mut state = waiting(profile, ontime, &[]);
         state.level = rng.below(5) as u32;
         state.duty = rng.pick(&[600_000, 20_000_000, HIGHEST_DUTY, HIGHEST_DUTY]);
+        if profile == 4 {
+            state.latest = rng.pick(&[0, 620_000, 622_001, 650_000, 1_000_000]);
+        }
         let admissions = match rng.below(2) {
             0 => ledgers::good(profile, NOW, &mut rng),
             _ => crowded(&mut rng, profile),
@@ -217,13 +241,16 @@ fn closed_is_the_smallest_wait() {
         opens_in(&state, left);
         bound[profile as usize] += u32::from(left > wait_left(&state));
     }
-    assert!(bound[1] > 100 && bound[3] > 500, "{bound:?}");
+    let due = [0, 100, 0, 500, 500];
+    let often = |profile: usize| bound[profile] > due[profile];
+    assert!([1, 3, 4].into_iter().all(often), "{bound:?}");
 }
 
 /// A state with three admissions that age after 10,000, 300,000 and 500,000 µs.
 fn three_held(profile: u32) -> State {
     let mut state = waiting(profile, 1, &[(990_000, 9), (700_000, 8), (500_000, 7)]);
     (state.level, state.duty) = (4, 600_000);
+    state.latest = if profile == 4 { 1_000_000 } else { 0 };
     state
 }
 
@@ -261,11 +288,19 @@ fn every_accepted_call_drops_what_has_aged() {
         ] {
             let stamp = STAMP.wrapping_add(step);
             let due = dropped(&state, many);
-            let words = first_busy(500);
+            let words = first_busy(1_000, 500);
             let (id, priority, ontime, lifetime) = (1, 0, 1, 9);
             for call in [
-                Call::SampleCount { busy: 500, stamp },
-                Call::SampleWords { words, stamp },
+                Call::SampleCount {
+                    busy: 1,
+                    probes: 2,
+                    stamp,
+                },
+                Call::SampleWords {
+                    probes: 1_000,
+                    words,
+                    stamp,
+                },
                 Call::Offer {
                     id,
                     priority,
@@ -309,8 +344,8 @@ fn a_refused_call_drops_nothing() {
                         refused += 1;
                     }
                 }
-                // A bad sample of each kind, a priority, an on-time and a lifetime.
-                assert_eq!(refused, 5, "{state:?}");
+                // Bad samples by words, by count and of no probes, a priority, an on-time and a lifetime.
+                assert_eq!(refused, 6, "{state:?}");
                 let back = Call::Poll {
                     stamp: state.stamp.wrapping_sub(1 + step),
                 };
@@ -368,6 +403,16 @@ impl Ear {
     }
 }
 
+/// A sample of an idle channel.
+fn quiet(stamp: u32) -> Call {
+    let (busy, probes) = (0, 1_000);
+    Call::SampleCount {
+        busy,
+        probes,
+        stamp,
+    }
+}
+
 /// A run of the archive beside the reference, the ear and, from a fresh state, the book.
 struct Run {
     state: State,
@@ -377,21 +422,18 @@ struct Run {
 }
 
 impl Run {
-    /// A fresh gate of profile 3 whose duty quiet samples have brought to its highest.
-    fn quick(origin: String) -> Run {
+    /// A fresh gate after quiet samples: those have brought profile 3 to its highest duty.
+    fn quick(profile: u32, origin: String) -> Run {
         let mut run = Run {
-            state: made(3, sys::DROP_OLDEST, STAMP),
+            state: made(profile, sys::DROP_OLDEST, STAMP),
             ear: Ear::default(),
-            book: Some(Book::new(3, STAMP)),
+            book: Some(Book::new(profile, STAMP)),
             origin,
         };
         for _ in 0..500 {
-            run.call(&Call::SampleCount {
-                busy: 0,
-                stamp: STAMP,
-            });
+            run.call(&quiet(STAMP));
         }
-        assert_eq!(run.state.duty, HIGHEST_DUTY);
+        assert_eq!(run.state.duty == HIGHEST_DUTY, profile == 3);
         run
     }
 
@@ -444,14 +486,11 @@ impl Run {
 /// The request's own example: of eight packets of 4,000 µs at 133,334 µs the eighth waits until the first is a second old.
 #[test]
 fn eight_packets_of_4_000() {
-    let mut run = Run::quick("eight packets".into());
+    let mut run = Run::quick(3, "eight packets".into());
     for packet in 0..7 {
         run.offer(packet % 4, 4_000);
         assert!(matches!(run.poll(0), Answer::Sent(_)));
-        run.call(&Call::SampleCount {
-            busy: 0,
-            stamp: run.state.stamp.wrapping_add(133_334),
-        });
+        run.call(&quiet(run.state.stamp.wrapping_add(133_334)));
     }
     run.offer(3, 4_000);
     assert_eq!(run.poll(0), Answer::Closed(66_662));
@@ -463,15 +502,12 @@ fn eight_packets_of_4_000() {
 /// Two hours of 750 µs each 25 ms: every second is full to the last µs, and no packet waits.
 #[test]
 fn forty_of_750_for_two_hours() {
-    let mut run = Run::quick("forty of 750".into());
+    let mut run = Run::quick(3, "forty of 750".into());
     for packet in 0..2 * 3_600 * 40 {
         run.offer(packet % 4, 750);
         assert!(matches!(run.poll(0), Answer::Sent(_)));
         assert_eq!(run.state.ledger.len, u64::from(packet + 1).min(40));
-        run.call(&Call::SampleCount {
-            busy: 0,
-            stamp: run.state.stamp.wrapping_add(25_000),
-        });
+        run.call(&quiet(run.state.stamp.wrapping_add(25_000)));
     }
     assert_eq!(run.ear.fullest, 30_000);
     assert!(run.state.time >= 2 * 3_600_000_000);
@@ -480,15 +516,20 @@ fn forty_of_750_for_two_hours() {
 /// Hours at the edge: on-times that fill the second in many ways, each packet sent at the first µs at which it may go.
 #[test]
 fn hours_at_the_edge() {
-    for seed in [0x5ec1, 0x5ec2, 0x5ec3] {
+    for (profile, seed) in [(3, 0x5ec1), (3, 0x5ec2), (3, 0x5ec3), (4, 0x5ec4)] {
         let mut rng = Rng::new(seed);
-        let mut run = Run::quick(format!("seed {seed:#x}"));
+        let mut run = Run::quick(profile, format!("profile {profile}, seed {seed:#x}"));
         let mut by_second = 0;
         while run.state.time < 2 * 3_600_000_000 {
             if rng.one_in(4) {
                 let stamp = run.state.stamp;
-                let busy = rng.below(600) as u32; // the duty stays high
-                run.call(&Call::SampleCount { busy, stamp });
+                let busy = rng.below(600) as u32; // the duty stays high, and profile 4 calm
+                let probes = 1_000;
+                run.call(&Call::SampleCount {
+                    busy,
+                    probes,
+                    stamp,
+                });
             }
             let ontime = rng.pick(&[1, 700, 750, 751, 1_000, 2_000, 3_999, 4_000]);
             run.offer(rng.below(4) as u32, ontime);
@@ -504,7 +545,14 @@ fn hours_at_the_edge() {
 /// An hour from states whose ledger is full: what it held at first is in the count of every second.
 #[test]
 fn from_a_full_ledger_on() {
-    for (profile, many, held) in [(1, 35, 857), (1, 30, 1_000), (3, 40, 750), (3, 8, 3_750)] {
+    for (profile, many, held) in [
+        (1, 35, 857),
+        (1, 30, 1_000),
+        (3, 40, 750),
+        (3, 8, 3_750),
+        (4, 40, 750),
+        (4, 8, 3_750),
+    ] {
         let mut state = waiting(profile, 1, &ages(many, 25_000, held, 1));
         state.queues[2] = Queue::default();
         let mut run = Run {
@@ -531,7 +579,7 @@ fn from_a_full_ledger_on() {
 #[test]
 fn a_gate_keeps_the_second() {
     let mut gate = Gate::new(3, WhenFull::RefuseNew, 0).unwrap();
-    (0..500).for_each(|_| gate.sample_count(0, 0).unwrap());
+    (0..500).for_each(|_| gate.sample_count(0, 1_000, 0).unwrap());
     let offer = |id| Offer {
         id,
         priority: 0,
@@ -549,7 +597,7 @@ fn a_gate_keeps_the_second() {
         ledger.ontimes[..8],
         [4_000, 4_000, 4_000, 4_000, 4_000, 4_000, 4_000, 0]
     );
-    gate.sample_count(0, 1_000_000).unwrap();
+    gate.sample_count(0, 1_000, 1_000_000).unwrap();
     assert_eq!(
         (gate.state().ledger.len, gate.state().ledger.ats[0]),
         (6, 133_334)

@@ -1,4 +1,4 @@
-//! Sound states made field by field. Most are reached by no run: a level in profile 3, a duty in profile 1,
+//! Sound states made field by field. Most are reached by no run: a level in profiles 3 and 4, a duty in profile 1,
 //! queues of packets that expired long ago, any running time beside any stamp, any counts that add up, displaced ones in
 //! a gate that refuses, a ledger that no wait of its profile leads to.
 
@@ -11,7 +11,9 @@ use reference::rules;
 use reference::state::{sound, Packet, Queue, State};
 
 const FULL_LOAD: u32 = 1_000_000;
-const EDGE_LOADS: [u32; 5] = [0, 1, 680_000, 999_999, FULL_LOAD];
+const EDGE_LOADS: [u32; 10] = [
+    0, 1, 619_999, 620_000, 620_001, 621_000, 621_001, 680_000, 999_999, FULL_LOAD,
+];
 
 /// A time up to `most`, often near 0 or near `most`.
 fn time_up_to(rng: &mut Rng, most: u64) -> u64 {
@@ -66,6 +68,9 @@ pub fn sound_state(rng: &mut Rng, profile: u32) -> State {
     if profile == 3 && rng.one_in(2) {
         state.haskept = true;
         state.kept = edge_or(rng, &EDGE_LOADS, FULL_LOAD);
+    }
+    if profile == 4 {
+        state.latest = edge_or(rng, &EDGE_LOADS, FULL_LOAD);
     }
     for priority in 0..4 {
         if !rng.one_in(3) {

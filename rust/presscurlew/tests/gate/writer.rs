@@ -1,8 +1,8 @@
 //! Calls written to a log by the archive, held to the reference's writer and read back by its reader.
 
 use crate::help::{
-    archive_write, edge_or, first_busy, hold_write, random_words, Call, LogCall, EDGE_COUNTS,
-    EDGE_LIFETIMES,
+    archive_write, edge_or, first_busy, hold_write, random_count, random_words, Call, LogCall,
+    EDGE_LIFETIMES, EDGE_PROBES,
 };
 use presscurlew::{sys, Offer};
 use reference::log::{read, Record, RECORD_BYTES};
@@ -16,12 +16,20 @@ fn make(profile: u32, oldway: u32, stamp: u32) -> LogCall {
     }
 }
 
-fn by_words(words: Vec<u64>, stamp: u32) -> LogCall {
-    LogCall::On(Call::SampleWords { words, stamp })
+fn by_words(probes: u32, words: Vec<u64>, stamp: u32) -> LogCall {
+    LogCall::On(Call::SampleWords {
+        probes,
+        words,
+        stamp,
+    })
 }
 
-fn by_count(busy: u32, stamp: u32) -> LogCall {
-    LogCall::On(Call::SampleCount { busy, stamp })
+fn by_count(busy: u32, probes: u32, stamp: u32) -> LogCall {
+    LogCall::On(Call::SampleCount {
+        busy,
+        probes,
+        stamp,
+    })
 }
 
 fn offer(offer: Offer, stamp: u32) -> LogCall {
@@ -73,12 +81,20 @@ fn the_bytes_of_each_call() {
             [0, 3, 0, 0, 1, 0, 0, 0, 0, 0, 0, 0, 1, 2, 3, 4],
         ),
         (
-            by_count(0x1413_1211, stamp),
+            by_count(0x1413_1211, 1_000, stamp),
             [1, 0, 0, 0, 0, 0, 0, 0, 17, 18, 19, 20, 1, 2, 3, 4],
         ),
         (
-            by_words(first_busy(515), stamp),
+            by_count(0x1413_1211, 0x0a09_0807, stamp),
+            [1, 0, 0, 0, 7, 8, 9, 10, 17, 18, 19, 20, 1, 2, 3, 4],
+        ),
+        (
+            by_words(1_000, first_busy(1_000, 515), stamp),
             [1, 0, 0, 0, 0, 0, 0, 0, 3, 2, 0, 0, 1, 2, 3, 4],
+        ),
+        (
+            by_words(12_500, first_busy(12_500, 7_751), stamp),
+            [1, 0, 0, 0, 0xd4, 0x30, 0, 0, 0x47, 0x1e, 0, 0, 1, 2, 3, 4],
         ),
         (
             offer(ODD, stamp),
@@ -128,23 +144,32 @@ fn numbers() -> Vec<(LogCall, u32)> {
         };
         (offer(odd, 7), number)
     }));
-    all.extend([0, 5_000, u32::MAX].map(|busy| (by_count(busy, 7), 0)));
+    for probes in [1, 1_000, 20_000, u32::MAX] {
+        all.extend([0, 5_000, u32::MAX].map(|busy| (by_count(busy, probes, 7), 0)));
+    }
+    all.extend([0, 1_000, u32::MAX].map(|busy| (by_count(busy, 0, 7), 4)));
     all.extend(samples());
     all
 }
 
-fn samples() -> [(LogCall, u32); 6] {
-    let mut stray = first_busy(400);
+fn samples() -> [(LogCall, u32); 12] {
+    let mut stray = first_busy(1_000, 400);
     stray[15] |= 1 << 40;
     [
-        (first_busy(0), 0),
-        (first_busy(1_000), 0),
-        (vec![], 4),
-        (vec![0; 15], 4),
-        (vec![0; 17], 4),
-        (stray, 4),
+        (1_000, first_busy(1_000, 0), 0),
+        (1_000, first_busy(1_000, 1_000), 0),
+        (1, first_busy(1, 1), 0),
+        (12_500, first_busy(12_500, 12_500), 0),
+        (1_000, vec![], 4),
+        (1_000, vec![0; 15], 4),
+        (1_000, vec![0; 17], 4),
+        (1_000, stray, 4),
+        (0, vec![], 4),
+        (0, vec![0; 16], 4),
+        (12_501, vec![0; 196], 4),
+        (u32::MAX, vec![], 4),
     ]
-    .map(|(words, number)| (by_words(words, 7), number))
+    .map(|(probes, words, number)| (by_words(probes, words, 7), number))
 }
 
 /// Every place near the start and the end of logs of 0 to 60 bytes, and places near 2^64, of each call: what is refused
@@ -196,29 +221,63 @@ fn every_make() {
     }
 }
 
-/// Every single probe and every stray bit, every number of busy probes and every length.
+/// Probe counts of one word, of whole words and of the most words.
+const SOME_PROBES: [u32; 8] = [1, 63, 64, 65, 1_000, 1_024, 12_480, 12_500];
+
+/// Every single probe, every number of busy probes and every length.
 #[test]
 fn samples_by_words() {
-    for k in 0..1_000 {
-        let mut words = vec![0; 16];
-        words[k / 64] |= 1 << (k % 64);
-        let one = by_words(words, 9);
-        assert_eq!(hold_write(&one, 16, 0, &"one probe"), 0);
-        assert_eq!(written(&one), written(&by_count(1, 9)), "probe {k}");
+    for probes in SOME_PROBES {
+        for k in 0..probes as usize {
+            let mut words = first_busy(probes, 0);
+            words[k / 64] |= 1 << (k % 64);
+            let (one, count) = (by_words(probes, words, 9), by_count(1, probes, 9));
+            assert_eq!(written(&one), written(&count), "probe {k} of {probes}");
+        }
+        for busy in 0..=probes {
+            let first = by_words(probes, first_busy(probes, busy), 9);
+            let count = by_count(busy, probes, 9);
+            assert_eq!(written(&first), written(&count), "{busy} of {probes}");
+        }
+        for length in 0..400 {
+            let zeros = by_words(probes, vec![0; length], 9);
+            let number = hold_write(&zeros, 16, 0, &"a length");
+            let enough = length == probes.div_ceil(64) as usize;
+            let due = if enough { 0 } else { 4 };
+            assert_eq!(number, due, "{length} words of {probes} probes");
+        }
     }
-    for busy in 0..=1_000 {
-        let first = by_words(first_busy(busy), 9);
-        let count = by_count(busy as u32, 9);
-        assert_eq!(written(&first), written(&count), "{busy} probes");
-    }
-    for bit in 40..64 {
-        let mut words = first_busy(300);
-        words[15] |= 1 << bit;
-        assert_eq!(hold_write(&by_words(words, 9), 16, 0, &"a stray bit"), 4);
-    }
-    for length in 0..200 {
-        let number = hold_write(&by_words(vec![0; length], 9), 16, 0, &"a length");
-        assert_eq!(number, if length == 16 { 0 } else { 4 }, "{length} words");
+}
+
+/// Every probe count that a sample may have and some more: its record beside the reference, by count and by words, and
+/// every bit of the last word that is no probe.
+#[test]
+fn every_probe_count() {
+    let edges = EDGE_PROBES.into_iter().filter(|&probes| probes > 12_600);
+    for probes in (0..=12_600).chain(edges) {
+        for busy in [0, 1, probes, probes.wrapping_add(1)] {
+            let number = hold_write(&by_count(busy, probes, 9), 16, 0, &"by count");
+            assert_eq!(
+                number,
+                if probes == 0 { 4 } else { 0 },
+                "{busy} of {probes}"
+            );
+        }
+        let good = (1..=12_500).contains(&probes);
+        let words = first_busy(probes.min(13_000), 0);
+        let number = hold_write(&by_words(probes, words.clone(), 9), 16, 0, &"by words");
+        assert_eq!(number, if good { 0 } else { 4 }, "{probes} probes");
+        let strays = if good && probes % 64 != 0 {
+            probes % 64..64
+        } else {
+            0..0
+        };
+        for bit in strays {
+            let mut stray = words.clone();
+            *stray.last_mut().expect("a word") |= 1 << bit;
+            let number = hold_write(&by_words(probes, stray, 9), 16, 0, &"a stray bit");
+            assert_eq!(number, 4, "bit {bit} of {probes} probes");
+        }
     }
 }
 
@@ -229,19 +288,20 @@ fn there_and_back(bytes: &[u8; RECORD_BYTES]) -> Option<[u8; RECORD_BYTES]> {
     (archive_write(&call, &mut back, 0) == 0).then_some(back)
 }
 
-/// Whether a record has zeros in what its kind does not use, and 0 or 1 as a make's lifetime.
+/// Whether a record has zeros in what its kind does not use, 0 or 1 as a make's lifetime, and no 1,000 as a sample's.
 fn comes_back(bytes: &[u8; RECORD_BYTES]) -> bool {
     let zero = |from: usize, to: usize| bytes[from..to].iter().all(|&byte| byte == 0);
     match bytes[0] {
         0 => zero(2, 4) && bytes[4] < 2 && zero(5, 12),
-        1 => zero(1, 8),
+        1 => zero(1, 4) && bytes[4..8] != 1_000u32.to_le_bytes(),
         2 => true,
         _ => zero(1, 12),
     }
 }
 
 /// All 65,536 values of each pair of bytes that stand side by side, in each kind, the others zero; and of any two bytes
-/// of an offer. A record comes back as it was exactly if it has zeros in what its kind does not use.
+/// of an offer. A record comes back as it was exactly if it has zeros in what its kind does not use; a sample that says
+/// 1,000 comes back as one that says 0.
 #[test]
 fn every_two_bytes_of_a_record() {
     for kind in 0..4 {
@@ -302,8 +362,17 @@ fn any_call(rng: &mut Rng) -> LogCall {
             rng.pick(&[0, 0, 0, 1, 1, 1, 2, 256, u32::MAX]),
             stamp,
         ),
-        1 => by_words(random_words(rng), stamp),
-        2 => by_count(edge_or(rng, &EDGE_COUNTS, u32::MAX), stamp),
+        1 => {
+            let (probes, words) = random_words(rng);
+            by_words(probes, words, stamp)
+        }
+        2 => {
+            let (busy, probes) = random_count(rng);
+            match rng.below(4) {
+                0 => by_count(rng.next_u32(), rng.next_u32(), stamp),
+                _ => by_count(busy, probes, stamp),
+            }
+        }
         3 => offer(any_offer(rng), stamp),
         _ => poll(stamp),
     }
@@ -321,8 +390,13 @@ fn any_offer(rng: &mut Rng) -> Offer {
 /// A sample by words as one by its count, any other call as it is.
 fn by_its_count(call: &LogCall) -> LogCall {
     match call {
-        LogCall::On(Call::SampleWords { words, stamp }) => {
-            by_count(words.iter().map(|word| word.count_ones()).sum(), *stamp)
+        LogCall::On(Call::SampleWords {
+            probes,
+            words,
+            stamp,
+        }) => {
+            let busy = words.iter().map(|word| word.count_ones()).sum();
+            by_count(busy, *probes, *stamp)
         }
         other => other.clone(),
     }

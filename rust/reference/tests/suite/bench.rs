@@ -58,7 +58,7 @@ fn duty_stays_at_its_limits() {
 
 fn waits(duty: u32, ontime: u32, expected: u32) {
     assert_eq!(rules::wait_adaptive(duty, ontime), Some(expected));
-    let result = ccalls::wait(3, 0, duty, ontime);
+    let result = ccalls::wait(3, 0, duty, ontime, 0);
     assert_eq!((result.refusal, result.wait), (0, expected));
 }
 
@@ -90,7 +90,7 @@ fn four_samples_from_relaxed_to_restrictive() {
 
 #[test]
 fn lifetime_ends_at_its_age() {
-    for profile in [1, 2, 3] {
+    for profile in [1, 2, 3, 4] {
         let state = offered(fresh(profile), 5, 0, 60_000, 0);
         let (_, answer) = gate::poll(state, 59_999);
         assert!(matches!(answer, Answer::Sent(packet) if packet.id == 5));

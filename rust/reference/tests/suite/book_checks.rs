@@ -289,7 +289,11 @@ fn a_states_ledger_is_held_to_the_books() {
         assert!(said.contains(reason), "{said}");
     }
     // A sample too moves the second on, and a refused call does not.
-    let sample = |stamp| Call::SampleCount { busy: 0, stamp };
+    let sample = |stamp| Call::SampleCount {
+        busy: 0,
+        probes: 1_000,
+        stamp,
+    };
     for (stamp, answer, held) in [
         (1_000_004, Answer::Taken, vec![one, two]),
         (1_000_005, Answer::Refused(4), vec![one, two]),
@@ -377,8 +381,13 @@ fn idle_with_a_packet_there() {
 fn answers_that_do_not_fit_the_call() {
     let empty = book(&[]);
     let samples = [
-        Call::SampleCount { busy: 1, stamp: 0 },
+        Call::SampleCount {
+            busy: 1,
+            probes: 1_000,
+            stamp: 0,
+        },
         Call::SampleWords {
+            probes: 1_000,
             words: vec![0; 16],
             stamp: 0,
         },
@@ -408,7 +417,11 @@ fn a_refused_call_changes_nothing() {
 #[test]
 fn a_sample_moves_the_books_clock_alone() {
     let mut book = book(&[(offer(1, 0, 9, 60, 0), Answer::Taken)]);
-    let call = Call::SampleCount { busy: 0, stamp: 70 };
+    let call = Call::SampleCount {
+        busy: 0,
+        probes: 1_000,
+        stamp: 70,
+    };
     book.feed(&call, &Answer::Taken).unwrap();
     assert_eq!((book.time(), book.stamp()), (70, 70));
     assert_eq!(book.counts(), counts(1, 0, 0));
@@ -430,7 +443,11 @@ fn the_book_counts_what_it_writes_and_strikes() {
         ),
         (offer(3, 3, 9, 50, 0), Answer::Taken, counts(3, 1, 0)),
         (
-            Call::SampleCount { busy: 0, stamp: 50 },
+            Call::SampleCount {
+                busy: 0,
+                probes: 1_000,
+                stamp: 50,
+            },
             Answer::Taken,
             counts(3, 1, 0),
         ),
@@ -611,7 +628,7 @@ fn wrong_answers(rng: &mut Rng, right: &Answer, state: &State) -> Vec<Answer> {
 
 #[test]
 fn changed_answers_in_random_runs_are_rejected() {
-    for profile in [1, 2, 3] {
+    for profile in [1, 2, 3, 4] {
         let (mut state, _) = gate::make(profile, 0, 0);
         let mut book = Book::new(profile, 0);
         let mut caller = Caller::new(profile, 40);

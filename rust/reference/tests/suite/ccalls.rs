@@ -79,30 +79,44 @@ fn duty_update_refusals_in_order() {
 
 #[test]
 fn wait_refusals_in_order() {
-    for profile in [0, 4, BAD] {
-        assert_eq!(wait(profile, 0, 600_000, 1), no_wait(1));
-        assert_eq!(wait(profile, BAD, BAD, BAD), no_wait(1));
+    for profile in [0, 5, 6, BAD] {
+        assert_eq!(wait(profile, 0, 600_000, 1, 0), no_wait(1));
+        assert_eq!(wait(profile, BAD, BAD, BAD, BAD), no_wait(1));
     }
-    for (profile, most) in [(1, 1_000), (2, 500), (3, 4_000)] {
-        assert_eq!(wait(profile, 5, 600_000, 1), no_wait(9));
-        assert_eq!(wait(profile, 0, 599_999, 1), no_wait(9));
-        assert_eq!(wait(profile, 4, 30_000_001, 1), no_wait(9));
-        assert_eq!(wait(profile, BAD, BAD, BAD), no_wait(9));
-        assert_eq!(wait(profile, 4, 30_000_000, 0), no_wait(6));
-        assert_eq!(wait(profile, 4, 30_000_000, most + 1), no_wait(6));
-        assert_eq!(wait(profile, 4, 30_000_000, BAD), no_wait(6));
-        assert_eq!(wait(profile, 4, 30_000_000, most).refusal, 0);
-        assert_eq!(wait(profile, 0, 600_000, 1).refusal, 0);
+    for (profile, most) in [(1, 1_000), (2, 500), (3, 4_000), (4, 4_000)] {
+        for (ontime, load) in [(1, 0), (BAD, BAD), (0, 1_000_001)] {
+            assert_eq!(wait(profile, 5, 600_000, ontime, load), no_wait(9));
+            assert_eq!(wait(profile, 0, 599_999, ontime, load), no_wait(9));
+            assert_eq!(wait(profile, 4, 30_000_001, ontime, load), no_wait(9));
+            assert_eq!(wait(profile, BAD, BAD, ontime, load), no_wait(9));
+        }
+        for ontime in [0, 1, most, most + 1, BAD] {
+            let above = wait(profile, 4, 30_000_000, ontime, 1_000_001);
+            assert_eq!(above, no_wait(4));
+            assert_eq!(wait(profile, 0, 600_000, ontime, BAD), no_wait(4));
+        }
+        for load in [0, 620_000, 1_000_000] {
+            for ontime in [0, most + 1, BAD] {
+                assert_eq!(wait(profile, 4, 30_000_000, ontime, load), no_wait(6));
+            }
+            assert_eq!(wait(profile, 4, 30_000_000, most, load).refusal, 0);
+            assert_eq!(wait(profile, 0, 600_000, 1, load).refusal, 0);
+        }
     }
 }
 
 #[test]
 fn wait_uses_what_its_profile_uses() {
-    assert_eq!(wait(1, 3, 600_000, 1).wait, 500_000);
-    assert_eq!(wait(1, 3, 30_000_000, 1_000).wait, 500_000);
-    assert_eq!(wait(2, 3, 600_000, 500).wait, 250_000);
-    assert_eq!(wait(3, 0, 30_000_000, 4_000).wait, 133_334);
-    assert_eq!(wait(3, 4, 30_000_000, 4_000).wait, 133_334);
+    for load in [0, 620_001, 1_000_000] {
+        assert_eq!(wait(1, 3, 600_000, 1, load).wait, 500_000);
+        assert_eq!(wait(1, 3, 30_000_000, 1_000, load).wait, 500_000);
+        assert_eq!(wait(2, 3, 600_000, 500, load).wait, 250_000);
+        assert_eq!(wait(3, 0, 30_000_000, 4_000, load).wait, 133_334);
+        assert_eq!(wait(3, 4, 30_000_000, 4_000, load).wait, 133_334);
+    }
+    for (level, duty) in [(0, 600_000), (4, 600_000), (0, 30_000_000)] {
+        assert_eq!(wait(4, level, duty, 1_000, 700_000).wait, 457_000);
+    }
 }
 
 #[test]

@@ -41,9 +41,9 @@ fn half_a_turn_is_going_back() {
 #[test]
 fn a_refused_call_moves_no_clock() {
     let state = fresh(1);
-    let (state, _) = gate::sample_count(state, 1_001, 500);
+    let (state, _) = gate::sample_count(state, 1_001, 1_000, 500);
     assert_eq!((state.time, state.stamp), (0, 0));
-    let (state, _) = gate::sample_count(state, 1_000, 500);
+    let (state, _) = gate::sample_count(state, 1_000, 1_000, 500);
     assert_eq!((state.time, state.stamp), (500, 500));
 }
 
@@ -53,7 +53,7 @@ fn many_wraps_add_up() {
     let mut stamp = 4_000_000_000u32;
     for turn in 1..=1_000u64 {
         stamp = stamp.wrapping_add(2_000_000_000);
-        let (next, answer) = gate::sample_count(state, 0, stamp);
+        let (next, answer) = gate::sample_count(state, 0, 1_000, stamp);
         assert_eq!(answer, Answer::Taken);
         assert_eq!(next.time, turn * 2_000_000_000);
         state = next;
@@ -84,11 +84,11 @@ fn at_the_end_steps_of_zero_go_on() {
         let mut state = fresh(profile);
         state.time = END;
         state.stamp = 9;
-        assert_refused(state, gate::sample_count(state, 0, 10), 3);
-        assert_refused(state, gate::sample_words(state, &[0; 16], 10), 3);
+        assert_refused(state, gate::sample_count(state, 0, 1_000, 10), 3);
+        assert_refused(state, gate::sample_words(state, 1_000, &[0; 16], 10), 3);
         assert_refused(state, gate::offer(state, 1, 0, 1, 1, 10), 3);
         assert_refused(state, gate::poll(state, 10), 3);
-        let (state, answer) = gate::sample_count(state, 1_000, 9);
+        let (state, answer) = gate::sample_count(state, 1_000, 1_000, 9);
         assert_eq!(answer, Answer::Taken);
         let state = offered(state, 6, 3, 1, 9);
         assert_eq!(state.queues[3].slots[0].arrival, END);

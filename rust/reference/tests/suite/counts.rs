@@ -56,9 +56,9 @@ fn an_expiry_counts_at_its_removal() {
         let state = soon_expired(profile);
         assert_eq!(state.counts, counts(20, 0, 0));
         // A sample removes nothing, so it counts nothing.
-        let (later, answer) = gate::sample_count(state, 0, 200);
+        let (later, answer) = gate::sample_count(state, 0, 1_000, 200);
         assert_eq!((answer, later.counts), (Answer::Taken, counts(20, 0, 0)));
-        let (later, answer) = gate::sample_words(later, &words(0), 300);
+        let (later, answer) = gate::sample_words(later, 1_000, &words(0), 300);
         assert_eq!((answer, later.counts), (Answer::Taken, counts(20, 0, 0)));
         // The first offer or poll after it does, in all queues, and once.
         for state in [state, later] {
@@ -99,10 +99,10 @@ fn a_refused_call_counts_nothing() {
         let back = stamp.wrapping_add(BACK);
         let refused = [
             (gate::poll(full, back), 2),
-            (gate::sample_count(full, 0, back), 2),
+            (gate::sample_count(full, 0, 1_000, back), 2),
             (gate::offer(full, 1, 0, 1, 1, back), 2),
-            (gate::sample_count(full, 1_001, stamp), 4),
-            (gate::sample_words(full, &[0; 15], stamp), 4),
+            (gate::sample_count(full, 1_001, 1_000, stamp), 4),
+            (gate::sample_words(full, 1_000, &[0; 15], stamp), 4),
             (gate::offer(full, 1, 4, 1, 1, stamp), 5),
             (gate::offer(full, 1, 0, 0, 1, stamp), 6),
             (gate::offer(full, 1, 0, 1, 0, stamp), 7),

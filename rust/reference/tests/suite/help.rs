@@ -6,8 +6,8 @@ use reference::state::{Admission, Counts, Packet, Queue, State};
 
 pub use reference::gate::{Answer, Call};
 
-/// The three profiles.
-pub const PROFILES: [u32; 3] = [1, 2, 3];
+/// The four profiles.
+pub const PROFILES: [u32; 4] = [1, 2, 3, 4];
 
 /// The two ways that a gate is made in: a full queue drops its oldest, or it
 /// refuses.
@@ -91,18 +91,23 @@ pub fn late(profile: u32, lengths: [usize; 4]) -> State {
     state.counted(700, 40, 9)
 }
 
-/// Sixteen words with the first `busy` probes busy.
+/// Sixteen words with the first `busy` of 1,000 probes busy.
 pub fn words(busy: u32) -> Vec<u64> {
-    let mut words = vec![0u64; 16];
+    words_of(busy, 1_000)
+}
+
+/// Just enough words with the first `busy` of so many probes busy.
+pub fn words_of(busy: u32, probes: u32) -> Vec<u64> {
+    let mut words = vec![0u64; probes.div_ceil(64) as usize];
     for k in 0..busy as usize {
         words[k / 64] |= 1 << (k % 64);
     }
     words
 }
 
-/// A state after one sample by count that must be taken.
+/// A state after one sample of 1,000 probes by count that must be taken.
 pub fn sampled(state: State, busy: u32) -> State {
-    let (next, answer) = gate::sample_count(state, busy, state.stamp);
+    let (next, answer) = gate::sample_count(state, busy, 1_000, state.stamp);
     assert_eq!(answer, Answer::Taken);
     next
 }

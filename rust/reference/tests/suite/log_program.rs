@@ -192,7 +192,7 @@ fn a_make_starts_afresh_and_a_refused_one_leaves_nothing() {
         poll(7),
         make(0, 7),
         poll(7),
-        make(4, 7),
+        make(5, 7),
         sample(0, 7),
         make(255, 7),
         offer(1, 0, 1, 1_000, 7),
@@ -259,6 +259,39 @@ fn a_busy_count_is_judged_over_its_32_bits() {
     assert_eq!(output(&log), lines);
 }
 
+/// W-208: a sample's lifetime field is the probe count, and 0 means 1,000.
+#[test]
+fn a_sample_tells_its_probes() {
+    let of = |busy: u32, probes: u32| Record {
+        lifetime: probes,
+        ..sample(busy, 0)
+    };
+    let (state, _) = step(State::default(), &make(3, 0));
+    for (busy, probes, load) in [
+        (620, 0, 620_000),
+        (620, 1_000, 620_000),
+        (7_751, 12_500, 620_080),
+        (1, 3, 333_333),
+        (1, 1, 1_000_000),
+    ] {
+        let (next, answer) = step(state, &of(busy, probes));
+        assert_eq!((next.kept, answer), (load, Answer::Taken));
+    }
+    for (busy, probes) in [
+        (1_001, 0),
+        (1_001, 1_000),
+        (2, 1),
+        (12_501, 12_500),
+        (0, 12_501),
+        (0, 1 << 16),
+        (1, 1 << 31),
+        (0, u32::MAX),
+    ] {
+        let refused = (state, Answer::Refused(4));
+        assert_eq!(step(state, &of(busy, probes)), refused);
+    }
+}
+
 #[test]
 fn other_fields_are_ignored() {
     let full = Record {
@@ -286,7 +319,7 @@ fn other_fields_are_ignored() {
         kind: 1,
         priority: 77,
         ontime: 9,
-        lifetime: 9,
+        lifetime: 0,
         id: 400,
         stamp: 6,
     };

@@ -7,7 +7,7 @@ use reference::state::State;
 const BACK: u32 = 2_147_483_648;
 
 #[test]
-fn make_takes_three_profiles() {
+fn make_takes_four_profiles() {
     for profile in PROFILES {
         for (oldway, stamp) in [(0, 0), (0, 1), (0, u32::MAX), (1, 0), (1, 7)] {
             let (state, answer) = gate::make(profile, oldway, stamp);
@@ -23,7 +23,7 @@ fn make_takes_three_profiles() {
             assert_eq!(state, expected);
         }
     }
-    for profile in [0, 4, 5, 255, 256, u32::MAX] {
+    for profile in [0, 5, 6, 255, 256, u32::MAX] {
         for oldway in [0, 1, 2] {
             let none = State::default();
             assert_refused(none, gate::make(profile, oldway, 7), 1);
@@ -48,9 +48,23 @@ fn make_takes_a_yes_or_a_no() {
 fn number_4_by_count() {
     for profile in PROFILES {
         let state = fresh(profile);
-        assert_eq!(gate::sample_count(state, 1_000, 0).1, Answer::Taken);
+        assert_eq!(gate::sample_count(state, 1_000, 1_000, 0).1, Answer::Taken);
         for busy in [1_001, 65_536, u32::MAX] {
-            assert_refused(state, gate::sample_count(state, busy, 5), 4);
+            assert_refused(state, gate::sample_count(state, busy, 1_000, 5), 4);
+        }
+        for probes in [1, 2, 63, 64, 65, 999, 1_001, 12_499, 12_500] {
+            for busy in [0, 1, probes] {
+                let (_, answer) = gate::sample_count(state, busy, probes, 0);
+                assert_eq!(answer, Answer::Taken, "{busy} of {probes}");
+            }
+            let above = gate::sample_count(state, probes + 1, probes, 5);
+            assert_refused(state, above, 4);
+        }
+        // In a record 0 means 1,000; here it means 0.
+        for probes in [0, 12_501, 65_536 + 1_000, u32::MAX] {
+            for busy in [0, 1, probes] {
+                assert_refused(state, gate::sample_count(state, busy, probes, 5), 4);
+            }
         }
     }
 }
@@ -61,11 +75,15 @@ fn number_4_by_words() {
         let state = fresh(profile);
         let mut last = [0u64; 16];
         last[15] = 1 << 39;
-        assert_eq!(gate::sample_words(state, &last, 0).1, Answer::Taken);
+        assert_eq!(gate::sample_words(state, 1_000, &last, 0).1, Answer::Taken);
         last[15] = 1 << 40;
-        assert_refused(state, gate::sample_words(state, &last, 5), 4);
-        assert_refused(state, gate::sample_words(state, &[0; 15], 5), 4);
-        assert_refused(state, gate::sample_words(state, &[0; 17], 5), 4);
+        assert_refused(state, gate::sample_words(state, 1_000, &last, 5), 4);
+        assert_refused(state, gate::sample_words(state, 1_000, &[0; 15], 5), 4);
+        assert_refused(state, gate::sample_words(state, 1_000, &[0; 17], 5), 4);
+        for (probes, length) in [(0, 0), (0, 1), (0, 16), (12_501, 196), (u32::MAX, 16)] {
+            let quiet = vec![0; length];
+            assert_refused(state, gate::sample_words(state, probes, &quiet, 5), 4);
+        }
     }
 }
 
@@ -84,7 +102,7 @@ fn number_5_priority() {
 
 #[test]
 fn number_6_on_time() {
-    for (profile, most) in [(1, 1_000), (2, 500), (3, 4_000)] {
+    for (profile, most) in [(1, 1_000), (2, 500), (3, 4_000), (4, 4_000)] {
         let state = fresh(profile);
         for ontime in [1, most] {
             assert_eq!(gate::offer(state, 1, 0, ontime, 1, 0).1, Answer::Taken);
@@ -130,8 +148,8 @@ fn number_8_queue_full() {
 /// Every call, with arguments as bad as can be, on a state.
 fn worst_calls(state: State, stamp: u32) -> [(State, Answer); 4] {
     [
-        gate::sample_words(state, &[u64::MAX; 3], stamp),
-        gate::sample_count(state, u32::MAX, stamp),
+        gate::sample_words(state, 1_000, &[u64::MAX; 3], stamp),
+        gate::sample_count(state, u32::MAX, 1_000, stamp),
         gate::offer(state, 1, u32::MAX, u32::MAX, u32::MAX, stamp),
         gate::poll(state, stamp),
     ]

@@ -48,41 +48,43 @@ fn reactive_waits_by_level() {
     assert_eq!(waits(2), [50_000, 100_000, 200_000, 250_000, 1_000_000]);
     for level in [5, 6, u32::MAX] {
         assert_eq!(rules::wait_reactive(1, level), None);
-        assert_eq!(rules::wait(2, level, 600_000, 1), None);
+        assert_eq!(rules::wait(2, level, 600_000, 1, 0), None);
     }
-    assert_eq!(rules::wait(0, 0, 600_000, 1), None);
-    assert_eq!(rules::wait(4, 0, 600_000, 1), None);
+    assert_eq!(rules::wait(0, 0, 600_000, 1, 0), None);
+    assert_eq!(rules::wait(5, 0, 600_000, 1, 0), None);
 }
 
-/// W-202: the wait runs from the end in profiles 1 and 2, from the start in 3.
+/// W-202 and W-209: the wait runs from the end in profiles 1, 2 and 4, from the
+/// start in 3.
 #[test]
 fn the_gate_is_closed_for_the_wait_from_its_start_or_end() {
-    for profile in [1, 2, 3] {
+    for profile in [1, 2, 3, 4] {
         let most = rules::on_time_max(profile).unwrap();
         for level in 0..=4 {
-            for duty in [600_000, 7_777_777, 30_000_000] {
+            for (duty, load) in [(600_000, 620_001), (7_777_777, 0), (30_000_000, 700_000)] {
                 for ontime in 1..=most {
-                    let wait = rules::wait(profile, level, duty, ontime).unwrap();
+                    let wait = rules::wait(profile, level, duty, ontime, load).unwrap();
                     let before = if profile == 3 { 0 } else { ontime };
-                    let closed = rules::closed_for(profile, level, duty, ontime);
+                    let closed = rules::closed_for(profile, level, duty, ontime, load);
                     assert_eq!(closed, Some(u64::from(before + wait)));
                 }
             }
         }
     }
-    for profile in [0, 4, u32::MAX] {
+    for profile in [0, 5, u32::MAX] {
         assert_eq!(rules::wait_from(profile), None);
-        assert_eq!(rules::closed_for(profile, 0, 600_000, 1), None);
+        assert_eq!(rules::closed_for(profile, 0, 600_000, 1, 0), None);
     }
-    assert_eq!(rules::closed_for(1, 5, 600_000, 1), None);
+    assert_eq!(rules::closed_for(1, 5, 600_000, 1, 0), None);
 }
 
 /// The book's floors are the longest that the rules keep a gate closed.
 #[test]
 fn the_floor_is_the_longest_that_a_gate_is_closed() {
-    for profile in [1, 2, 3] {
+    for profile in [1, 2, 3, 4] {
         let most = rules::on_time_max(profile).unwrap();
-        let closed = (1..=most).filter_map(|ontime| rules::closed_for(profile, 4, 600_000, ontime));
+        let worst = |ontime| rules::closed_for(profile, 4, 600_000, ontime, 1_000_000);
+        let closed = (1..=most).filter_map(worst);
         assert_eq!(closed.max(), Some(floor(profile)));
     }
 }
@@ -134,8 +136,13 @@ fn rules_at_the_ends_of_their_types() {
     assert_eq!(rules::wait_adaptive(u32::MAX, 0), Some(25_000));
     assert_eq!(rules::wait_adaptive(0, 1), None);
     let end = u64::from(u32::MAX) + 1_000_000;
-    assert_eq!(rules::closed_for(1, 4, 0, u32::MAX), Some(end));
-    assert_eq!(rules::load_of_count(u32::MAX), None);
+    assert_eq!(rules::closed_for(1, 4, 0, u32::MAX, 0), Some(end));
+    assert_eq!(rules::closed_for(4, 0, 0, u32::MAX, u32::MAX), Some(end));
+    for probes in [0, 1, 1_000, 12_500, u32::MAX] {
+        assert_eq!(rules::load_of_count(u32::MAX, probes), None);
+    }
+    assert_eq!(rules::words_needed(u32::MAX), 1 << 26);
+    assert_eq!(rules::words_needed(0), 0);
     assert!(rules::expired(u64::MAX, 0, u32::MAX));
     assert!(!rules::expired(0, u64::MAX, 0));
     assert_eq!(rules::busy_count(&[u64::MAX; 40]), 2_560);
@@ -144,14 +151,14 @@ fn rules_at_the_ends_of_their_types() {
 
 #[test]
 fn on_times_allowed() {
-    for (profile, most) in [(1, 1_000), (2, 500), (3, 4_000)] {
+    for (profile, most) in [(1, 1_000), (2, 500), (3, 4_000), (4, 4_000)] {
         for ontime in 0..=5_000 {
             let allowed = (1..=most).contains(&ontime);
             assert_eq!(rules::on_time_allowed(profile, ontime), allowed);
         }
         assert!(!rules::on_time_allowed(profile, u32::MAX));
     }
-    for profile in [0, 4, u32::MAX] {
+    for profile in [0, 5, u32::MAX] {
         assert!(!rules::on_time_allowed(profile, 1));
     }
 }

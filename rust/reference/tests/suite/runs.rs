@@ -2,7 +2,7 @@
 
 use std::collections::BTreeMap;
 
-use crate::help::{words, Answer, Call};
+use crate::help::{words_of, Answer, Call};
 use reference::book::Book;
 use reference::gate;
 use reference::rng::Rng;
@@ -37,14 +37,22 @@ impl Caller {
     pub fn call(&mut self, last_stamp: u32) -> Call {
         let stamp = last_stamp.wrapping_add(self.step());
         match self.rng.below(8) {
-            0 => Call::SampleCount {
-                busy: self.busy(),
-                stamp,
-            },
-            1 => Call::SampleWords {
-                words: self.words(),
-                stamp,
-            },
+            0 => {
+                let (busy, probes) = self.busy_of();
+                Call::SampleCount {
+                    busy,
+                    probes,
+                    stamp,
+                }
+            }
+            1 => {
+                let (probes, words) = self.words();
+                Call::SampleWords {
+                    probes,
+                    words,
+                    stamp,
+                }
+            }
             2..=4 => self.offer(stamp),
             _ => Call::Poll { stamp },
         }
@@ -67,25 +75,35 @@ impl Caller {
         step as u32
     }
 
-    fn busy(&mut self) -> u32 {
+    /// So many busy of so many probes; now and then that is no sample.
+    fn busy_of(&mut self) -> (u32, u32) {
         if self.rng.one_in(3_000) {
             self.mood = self.rng.pick(&[0, 250, 400, 550, 700, 900]);
         }
-        if self.rng.one_in(20) {
-            return self.rng.pick(&[1_001, 5_000, u32::MAX]);
+        let any = 1 + self.rng.below(12_500) as u32;
+        let probes = self.rng.pick(&[1_000, 1_000, 12_500, 64, 65, any]);
+        match self.rng.below(40) {
+            0 => (self.rng.pick(&[probes + 1, 12_501, u32::MAX]), probes),
+            1 => (0, self.rng.pick(&[0, 12_501, u32::MAX])),
+            _ => {
+                let per_mille = (self.mood + self.rng.below(101) as u32).min(1_000);
+                (probes * per_mille / 1_000, probes)
+            }
         }
-        (self.mood + self.rng.below(101) as u32).min(1_000)
     }
 
-    fn words(&mut self) -> Vec<u64> {
-        let busy = self.busy();
-        let mut words = words(busy.min(1_000));
-        if busy > 1_000 {
+    fn words(&mut self) -> (u32, Vec<u64>) {
+        let (busy, probes) = self.busy_of();
+        let used = probes.min(12_501);
+        let mut words = words_of(busy.min(used), used);
+        let last = used % 64;
+        if busy > probes {
             words.pop();
-        } else if self.rng.one_in(20) {
-            words[15] |= 1 << (40 + self.rng.below(24));
+        } else if last > 0 && self.rng.one_in(20) {
+            let stray = u64::from(last) + self.rng.below(64 - u64::from(last));
+            words[used as usize / 64] |= 1 << stray;
         }
-        words
+        (probes, words)
     }
 
     fn offer(&mut self, stamp: u32) -> Call {
@@ -214,6 +232,17 @@ fn the_claim_holds_in_profile_3() {
     assert_eq!(book.closest().smallest_slack, Some(0));
 }
 
+#[test]
+fn the_claim_holds_in_profile_4() {
+    claim_holds(4);
+    let (_, book) = run(4, 0, 3, 50_000);
+    // The shortest wait, after the shortest on-time.
+    assert_eq!(book.closest().shortest_gap, Some(25_001));
+    // The ceiling isn't claimed; the second is.
+    assert_eq!(book.closest().smallest_slack, None);
+    assert!(book.closest().fullest_stretch > 20_000);
+}
+
 /// Takes one call of a run; the book holds its answer to demand 3.
 pub fn told((state, book): &mut (State, Book), call: Call) -> Answer {
     let (next, answer) = gate::call(*state, &call);
@@ -223,13 +252,21 @@ pub fn told((state, book): &mut (State, Book), call: Call) -> Answer {
 }
 
 /// A run that reaches the floor: four loud samples ask for the longest wait of
-/// profiles 1 and 2, a fresh duty for profile 3's, and this on-time goes first.
+/// profiles 1 and 2, and the last of them for profile 4's; a fresh duty for
+/// profile 3's. This on-time goes first.
 fn reaches_the_floor(profile: u32, ontime: u32, floor: u32) {
     let mut run = (gate::make(profile, 0, 0).0, Book::new(profile, 0));
     if profile != 3 {
         for _ in 0..4 {
             let (busy, stamp) = (1_000, 0);
-            told(&mut run, Call::SampleCount { busy, stamp });
+            told(
+                &mut run,
+                Call::SampleCount {
+                    busy,
+                    probes: 1_000,
+                    stamp,
+                },
+            );
         }
     }
     for id in [1, 2] {
@@ -272,6 +309,11 @@ fn a_run_of_profile_3_reaches_the_floor() {
     for ontime in [600, 601, 4_000] {
         reaches_the_floor(3, ontime, 1_000_000);
     }
+}
+
+#[test]
+fn a_run_of_profile_4_reaches_the_floor() {
+    reaches_the_floor(4, 4_000, 1_004_000);
 }
 
 #[test]

@@ -1,6 +1,6 @@
 //! "Samples": words and counts, levels, pairing.
 
-use crate::help::{assert_refused, fresh, late, sampled, words, Answer, PROFILES};
+use crate::help::{assert_refused, fresh, late, sampled, words, words_of, Answer, PROFILES};
 use reference::rng::Rng;
 use reference::{gate, rules};
 
@@ -11,7 +11,7 @@ fn each_probe_is_its_own_bit() {
         one[k / 64] = 1 << (k % 64);
         assert_eq!(rules::busy_count(&one), 1);
         assert_eq!(rules::probe_busy(&one, k), Some(true));
-        let (state, answer) = gate::sample_words(fresh(3), &one, 0);
+        let (state, answer) = gate::sample_words(fresh(3), 1_000, &one, 0);
         if k < 1_000 {
             assert_eq!(answer, Answer::Taken);
             assert_eq!(state.kept, 1_000);
@@ -33,11 +33,11 @@ fn busy_count_is_the_count_of_ones() {
 }
 
 #[test]
-fn only_sixteen_words_are_a_sample() {
+fn only_sixteen_words_are_a_sample_of_a_thousand() {
     for profile in PROFILES {
         for length in 0..=40 {
             let quiet = vec![0u64; length];
-            let result = gate::sample_words(fresh(profile), &quiet, 0);
+            let result = gate::sample_words(fresh(profile), 1_000, &quiet, 0);
             if length == 16 {
                 assert_eq!(result.1, Answer::Taken);
             } else {
@@ -58,21 +58,120 @@ fn words_and_count_do_the_same() {
             any[15] &= (1 << 40) - 1;
             let busy: u32 = any.iter().map(|word| word.count_ones()).sum();
             let stamp = state.stamp.wrapping_add(rng.next_u32() >> 12);
-            let by_words = gate::sample_words(state, &any, stamp);
-            assert_eq!(by_words, gate::sample_count(state, busy, stamp));
+            let by_words = gate::sample_words(state, 1_000, &any, stamp);
+            assert_eq!(by_words, gate::sample_count(state, busy, 1_000, stamp));
             assert_eq!(by_words.1, Answer::Taken);
             state = by_words.0;
         }
     }
-    assert_eq!(rules::load_of_words(&words(1_000)), Some(1_000_000));
-    assert_eq!(rules::load_of_words(&words(395)), Some(395_000));
+    assert_eq!(rules::load_of_words(1_000, &words(1_000)), Some(1_000_000));
+    assert_eq!(rules::load_of_words(1_000, &words(395)), Some(395_000));
+}
+
+/// W-208's load, by count and by words, worked by hand.
+#[test]
+fn loads_of_some_probes() {
+    for (busy, probes, load) in [
+        (0, 1, 0),
+        (1, 1, 1_000_000),
+        (1, 2, 500_000),
+        (1, 3, 333_333),
+        (2, 3, 666_666),
+        (6, 7, 857_142),
+        (63, 64, 984_375),
+        (64, 64, 1_000_000),
+        (64, 65, 984_615),
+        (1, 12_500, 80),
+        (7_750, 12_500, 620_000),
+        (7_751, 12_500, 620_080),
+        (12_499, 12_500, 999_920),
+        (12_500, 12_500, 1_000_000),
+    ] {
+        assert_eq!(rules::load_of_count(busy, probes), Some(load));
+        let words = words_of(busy, probes);
+        assert_eq!(rules::load_of_words(probes, &words), Some(load));
+        let (by_count, answer) = gate::sample_count(fresh(3), busy, probes, 0);
+        assert_eq!((by_count.kept, answer), (load, Answer::Taken));
+        let by_words = gate::sample_words(fresh(3), probes, &words, 0);
+        assert_eq!(by_words, (by_count, answer));
+    }
+}
+
+/// The old law is the new one's at 1,000 probes.
+#[test]
+fn a_thousand_probes_have_a_thousand_each() {
+    for busy in 0..=1_000 {
+        assert_eq!(rules::load_of_count(busy, 1_000), Some(1_000 * busy));
+    }
+}
+
+/// The load is the greatest whole number that is not above the fraction.
+#[test]
+fn the_load_is_rounded_down() {
+    let mut rng = Rng::new(208);
+    for probes in 1..=12_500u32 {
+        let any = rng.below(u64::from(probes) + 1) as u32;
+        for busy in [0, 1, any, probes - 1, probes] {
+            let load = u64::from(rules::load_of_count(busy, probes).unwrap());
+            let (busy, of) = (u64::from(busy), u64::from(probes));
+            let over = 1_000_000 * busy;
+            assert!(load * of <= over && over < (load + 1) * of);
+        }
+        assert_eq!(rules::load_of_count(probes + 1, probes), None);
+    }
+}
+
+/// Every probe count, with words around just enough and each stray bit.
+#[test]
+fn just_enough_words_and_no_stray_bit() {
+    for probes in 1..=12_500u32 {
+        let needed = (0..).find(|length| 64 * length >= probes as usize).unwrap();
+        assert_eq!(rules::words_needed(probes), needed);
+        for length in needed.saturating_sub(2)..=needed + 2 {
+            let quiet = vec![0; length];
+            assert_eq!(rules::words_good(probes, &quiet), length == needed);
+        }
+        let mut bent = vec![0u64; needed];
+        for k in 64 * (needed - 1)..64 * needed {
+            bent[needed - 1] = 1 << (k % 64);
+            let within = k < probes as usize;
+            assert_eq!(rules::words_good(probes, &bent), within, "{probes}, {k}");
+        }
+    }
+    for probes in [0, 12_501, 12_544, 65_536, u32::MAX] {
+        for length in [0, 1, 195, 196, 197, 1_024] {
+            assert!(!rules::words_good(probes, &vec![0; length]));
+        }
+    }
+}
+
+#[test]
+fn words_and_count_of_any_probes_do_the_same() {
+    let mut rng = Rng::new(28);
+    for profile in PROFILES {
+        let mut state = late(profile, [1, 0, 2, 5]);
+        for _ in 0..500 {
+            let any = 1 + rng.below(12_500) as u32;
+            let probes = rng.pick(&[1, 63, 64, 65, 1_000, 12_499, 12_500, any]);
+            let quiet = rng.next_u64() & rng.next_u64();
+            let length = probes.div_ceil(64) as usize;
+            let mut any: Vec<u64> = (0..length).map(|_| rng.next_u64() | quiet).collect();
+            any[length - 1] &= u64::MAX >> ((64 - probes % 64) % 64);
+            let busy: u32 = any.iter().map(|word| word.count_ones()).sum();
+            let stamp = state.stamp.wrapping_add(rng.next_u32() >> 12);
+            let by_words = gate::sample_words(state, probes, &any, stamp);
+            assert_eq!(by_words, gate::sample_count(state, busy, probes, stamp));
+            assert_eq!(by_words.1, Answer::Taken);
+            state = by_words.0;
+        }
+    }
 }
 
 #[test]
 fn a_sample_expires_nothing() {
     for profile in PROFILES {
         let state = late(profile, [5, 4, 3, 2]);
-        let (next, answer) = gate::sample_count(state, 0, state.stamp + 2_000_000_000);
+        let (next, answer) = gate::sample_count(state, 0, 1_000, state.stamp + 2_000_000_000);
         assert_eq!(answer, Answer::Taken);
         assert_eq!(next.queues, state.queues);
         assert_eq!(next.time, state.time + 2_000_000_000);
@@ -103,7 +202,7 @@ fn profile_3_keeps_then_pairs() {
     assert_eq!((first.kept, first.haskept), (700_000, true));
     assert_eq!((first.duty, first.smoothed, first.level), (600_000, 0, 2));
     // A refused sample does not count.
-    assert_refused(first, gate::sample_count(first, 1_001, 0), 4);
+    assert_refused(first, gate::sample_count(first, 1_001, 1_000, 0), 4);
     let second = sampled(first, 300);
     assert_eq!((second.kept, second.haskept), (0, false));
     assert_eq!(second.smoothed, 250_000);

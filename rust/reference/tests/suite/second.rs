@@ -262,8 +262,8 @@ fn accepted_calls_drop_and_refused_ones_do_not() {
         ] {
             let stamp = state.stamp + step;
             let accepted = [
-                gate::sample_count(state, 500, stamp),
-                gate::sample_words(state, &words(500), stamp),
+                gate::sample_count(state, 500, 1_000, stamp),
+                gate::sample_words(state, 1_000, &words(500), stamp),
                 gate::offer(state, 1, 0, 1, 9, stamp),
             ];
             for (next, answer) in accepted {
@@ -279,8 +279,8 @@ fn accepted_calls_drop_and_refused_ones_do_not() {
                 }
                 _ => assert_eq!(ages(&next), left),
             }
-            assert_refused(state, gate::sample_count(state, 1_001, stamp), 4);
-            assert_refused(state, gate::sample_words(state, &[], stamp), 4);
+            assert_refused(state, gate::sample_count(state, 1_001, 1_000, stamp), 4);
+            assert_refused(state, gate::sample_words(state, 1_000, &[], stamp), 4);
             assert_refused(state, gate::offer(state, 1, 4, 1, 9, stamp), 5);
             assert_refused(state, gate::offer(state, 1, 0, 0, 9, stamp), 6);
             assert_refused(state, gate::offer(state, 1, 0, 1, 0, stamp), 7);
@@ -348,11 +348,10 @@ fn closed_is_the_smallest_wait_that_sends() {
 
 /// What is left of the wait alone.
 fn wait_left(state: &State) -> u64 {
-    let (profile, level, duty) = (state.profile, state.level, state.duty);
     let Some(last) = state.last() else {
         return 0;
     };
-    let closed = rules::closed_for(profile, level, duty, last.ontime).unwrap();
+    let closed = state.closed_for(last.ontime).unwrap();
     closed.saturating_sub(state.time - last.at)
 }
 
@@ -431,7 +430,7 @@ fn runs_at_the_edge_of_the_second() {
 /// A fresh state holds no admission, and neither does the not live one.
 #[test]
 fn a_fresh_ledger_is_empty() {
-    for profile in 0..=4 {
+    for profile in 0..=5 {
         let (state, _) = gate::make(profile, 0, 7);
         assert_eq!(state.ledger, reference::state::Ledger::default());
     }

@@ -41,8 +41,12 @@ fn breaks_only(state: &State, rule: &str) {
 fn all_calls_refuse(state: &State) {
     assert!(!sound(state));
     let stamp = state.stamp;
-    assert_refused(*state, gate::sample_words(*state, &[0; 16], stamp), 9);
-    assert_refused(*state, gate::sample_count(*state, 0, stamp), 9);
+    assert_refused(
+        *state,
+        gate::sample_words(*state, 1_000, &[0; 16], stamp),
+        9,
+    );
+    assert_refused(*state, gate::sample_count(*state, 0, 1_000, stamp), 9);
     assert_refused(*state, gate::offer(*state, 1, 0, 1, 1, stamp), 9);
     assert_refused(*state, gate::poll(*state, stamp), 9);
 }
@@ -74,8 +78,8 @@ fn each_waiting_packet(rule: &str, changes: &[Change]) {
             }
         }
     }
-    // Every slot of every queue, in each of the three profiles.
-    assert_eq!(tried, 3 * 4 * (1 + 2 + 3 + 4 + 5) * changes.len());
+    // Every slot of every queue, in each of the four profiles.
+    assert_eq!(tried, 4 * 4 * (1 + 2 + 3 + 4 + 5) * changes.len());
 }
 
 #[test]
@@ -92,7 +96,7 @@ fn fresh_and_late_states_are_sound() {
 fn the_not_live_state_is_not() {
     let zero = State::default();
     let broken = broken_rules(&zero);
-    assert_eq!(broken, ["live", "profile 1 to 3", "duty within limits"]);
+    assert_eq!(broken, ["live", "profile 1 to 4", "duty within limits"]);
     all_calls_refuse(&zero);
 }
 
@@ -111,13 +115,13 @@ fn live() {
 
 #[test]
 fn profile() {
-    for profile in [0, 4, 5, 257, u32::MAX] {
+    for profile in [0, 5, 6, 257, u32::MAX] {
         breaks_only(
             &State {
                 profile,
                 ..fresh(1)
             },
-            "profile 1 to 3",
+            "profile 1 to 4",
         );
         // With packets waiting it allows no on-time either.
         all_calls_refuse(&State {
@@ -164,6 +168,27 @@ fn smoothed_load() {
         for smoothed in [1_000_001, u32::MAX] {
             let state = State { smoothed, ..start };
             breaks_only(&state, "smoothed load at most 1,000,000");
+        }
+    }
+}
+
+/// W-209: the latest load is kept in profile 4 alone.
+#[test]
+fn latest_load() {
+    for start in starts() {
+        if start.profile == 4 {
+            for latest in [0, 1, 620_000, 1_000_000] {
+                is_sound(&State { latest, ..start });
+            }
+            for latest in [1_000_001, u32::MAX] {
+                let state = State { latest, ..start };
+                breaks_only(&state, "latest load at most 1,000,000");
+            }
+        } else {
+            for latest in [1, 620_000, 1_000_000] {
+                let state = State { latest, ..start };
+                breaks_only(&state, "latest load zero outside profile 4");
+            }
         }
     }
 }
@@ -222,7 +247,7 @@ fn last_admission() {
         for at in [start.time + 1, u64::MAX] {
             breaks_only(&admitted(at, 1), "admission not after running time");
         }
-        let most = [1_000, 500, 4_000][start.profile as usize - 1];
+        let most = [1_000, 500, 4_000, 4_000][start.profile as usize - 1];
         is_sound(&admitted(start.time, most));
         for ontime in [0, most + 1, u32::MAX] {
             // So old that it stands in no ledger.
@@ -456,7 +481,7 @@ fn old_way() {
 /// States of a profile whose ledgers are the row of each kind that it allows.
 fn with_ledgers(profile: u32) -> Vec<State> {
     let state = late(profile, [1, 0, 2, 0]);
-    let most = [1_000, 500, 4_000][profile as usize - 1];
+    let most = [1_000, 500, 4_000, 4_000][profile as usize - 1];
     let mut rows = vec![
         vec![],
         row(1, 0, 1, state.time),
@@ -605,6 +630,7 @@ fn several_rules_at_once_are_all_named() {
         level: 9,
         smoothed: u32::MAX,
         kept: u32::MAX,
+        latest: u32::MAX,
         time: u64::MAX,
         at: 1,
         ontime: 1,

@@ -1,6 +1,6 @@
 //! W-206: calls written to a log, there and back.
 
-use crate::help::{fresh, words, Answer, Call, PROFILES};
+use crate::help::{fresh, words, words_of, Answer, Call, PROFILES};
 use crate::runs::Caller;
 use reference::gate;
 use reference::log::{line, read, replay, LogCall, Record};
@@ -18,13 +18,21 @@ fn make(profile: u32, oldway: u32, stamp: u32) -> LogCall {
     }
 }
 
-fn by_words(words: &[u64], stamp: u32) -> LogCall {
+fn by_words(probes: u32, words: &[u64], stamp: u32) -> LogCall {
     let words = words.to_vec();
-    LogCall::On(Call::SampleWords { words, stamp })
+    LogCall::On(Call::SampleWords {
+        probes,
+        words,
+        stamp,
+    })
 }
 
-fn by_count(busy: u32, stamp: u32) -> LogCall {
-    LogCall::On(Call::SampleCount { busy, stamp })
+fn by_count(busy: u32, probes: u32, stamp: u32) -> LogCall {
+    LogCall::On(Call::SampleCount {
+        busy,
+        probes,
+        stamp,
+    })
 }
 
 fn offer(id: u32, priority: u32, ontime: u32, lifetime: u32, stamp: u32) -> LogCall {
@@ -78,12 +86,20 @@ fn the_bytes_of_each_call() {
             [0, 3, 0, 0, 1, 0, 0, 0, 0, 0, 0, 0, 1, 2, 3, 4],
         ),
         (
-            by_count(0x1413_1211, 0x0403_0201),
+            by_count(0x1413_1211, 1_000, 0x0403_0201),
             [1, 0, 0, 0, 0, 0, 0, 0, 17, 18, 19, 20, 1, 2, 3, 4],
         ),
         (
-            by_words(&words(515), 0x0403_0201),
+            by_count(0x1413_1211, 0x0A09_0807, 0x0403_0201),
+            [1, 0, 0, 0, 7, 8, 9, 10, 17, 18, 19, 20, 1, 2, 3, 4],
+        ),
+        (
+            by_words(1_000, &words(515), 0x0403_0201),
             [1, 0, 0, 0, 0, 0, 0, 0, 3, 2, 0, 0, 1, 2, 3, 4],
+        ),
+        (
+            by_words(12_500, &words_of(515, 12_500), 0x0403_0201),
+            [1, 0, 0, 0, 0xD4, 0x30, 0, 0, 3, 2, 0, 0, 1, 2, 3, 4],
         ),
         (
             offer(0x1413_1211, 3, 0x0605, 0x0A09_0807, 0x0403_0201),
@@ -106,8 +122,11 @@ fn width_is_judged_and_not_worth() {
         (make(77, 0, 0), 1, 77),
         (make(0, 1, 0), 1, 0),
         (make(255, 1, 0), 1, 255),
-        (by_count(5_000, 0), 9, 19),
-        (by_count(u32::MAX, 0), 11, 255),
+        (by_count(5_000, 1_000, 0), 9, 19),
+        (by_count(u32::MAX, 1_000, 0), 11, 255),
+        (by_count(0, 12_501, 0), 4, 0xD5),
+        (by_count(2, 1, 0), 4, 1),
+        (by_count(0, u32::MAX, 0), 7, 255),
         (offer(0, 200, 0, 0, 0), 1, 200),
         (offer(0, 255, 65_535, u32::MAX, 0), 3, 255),
         (offer(0, 0, 0, u32::MAX, 0), 7, 255),
@@ -138,19 +157,44 @@ fn what_is_too_wide_is_refused_with_its_own_number() {
 #[test]
 fn a_bad_sample_by_words_is_refused_with_4() {
     let good = words(400);
-    refused(&by_words(&good[..15], 7), 4);
-    refused(&by_words(&[], 7), 4);
+    refused(&by_words(1_000, &good[..15], 7), 4);
+    refused(&by_words(1_000, &[], 7), 4);
     let mut longer = good.clone();
     longer.push(0);
-    refused(&by_words(&longer, 7), 4);
+    refused(&by_words(1_000, &longer, 7), 4);
     for bit in 40..64 {
         let mut bent = good.clone();
         bent[15] |= 1 << bit;
-        refused(&by_words(&bent, 7), 4);
+        refused(&by_words(1_000, &bent, 7), 4);
     }
     let mut last = good;
     last[15] |= 1 << 39;
-    assert_eq!(read_back(&by_words(&last, 7)), by_count(401, 7));
+    let same = by_count(401, 1_000, 7);
+    assert_eq!(read_back(&by_words(1_000, &last, 7)), same);
+    refused(&by_words(65, &[0, 2], 7), 4);
+    refused(&by_words(64, &[0, 0], 7), 4);
+    refused(&by_words(12_501, &[0; 196], 7), 4);
+    let same = by_count(65, 65, 7);
+    assert_eq!(read_back(&by_words(65, &[u64::MAX, 1], 7)), same);
+}
+
+/// W-208: the record's 0 means 1,000, so that no probes at all have no record;
+/// one that says 1,000 reads alike, and is not what is written.
+#[test]
+fn a_thousand_probes_are_written_as_0_and_0_is_refused() {
+    for busy in [0, 1, 1_000, u32::MAX] {
+        refused(&by_count(busy, 0, 7), 4);
+    }
+    for length in [0, 1, 16] {
+        refused(&by_words(0, &vec![0; length], 7), 4);
+    }
+    let bytes = written(&by_count(620, 1_000, 7));
+    assert_eq!(bytes[4..8], [0; 4]);
+    let mut says = bytes;
+    says[4..8].copy_from_slice(&1_000u32.to_le_bytes());
+    let read = read(&Record::from_bytes(&says)).unwrap();
+    assert_eq!(read, by_count(620, 1_000, 7));
+    assert_eq!(written(&read), bytes);
 }
 
 /// The call of what was written.
@@ -167,22 +211,26 @@ fn any_call(rng: &mut Rng) -> LogCall {
             make(profile, rng.pick(&[0, 0, 1, 1, 2, u32::MAX]), stamp)
         }
         1 => {
-            let mut words = words(0);
+            let any = 1 + rng.below(12_500) as u32;
+            let probes = rng.pick(&[0, 1, 64, 65, 1_000, 12_500, 12_501, any]);
+            let mut words = words_of(0, probes);
             words.iter_mut().for_each(|word| *word = rng.next_u64());
-            words[15] &= (1 << 40) - 1;
+            if let (Some(last), 1..) = (words.last_mut(), probes % 64) {
+                *last &= (1 << (probes % 64)) - 1;
+            }
             match rng.below(8) {
                 0 => words.truncate(rng.below(16) as usize),
-                1 => words[15] |= 1 << (40 + rng.below(24)),
+                1 => words.push(0),
+                2 if probes % 64 > 0 => words[probes as usize / 64] |= 1 << 63,
                 _ => {}
             }
-            by_words(&words, stamp)
+            by_words(probes, &words, stamp)
         }
         2 => {
             let any = rng.next_u32();
-            by_count(
-                rng.pick(&[0, 1, 1_000, 1_001, 65_536, any, u32::MAX]),
-                stamp,
-            )
+            let busy = rng.pick(&[0, 1, 1_000, 1_001, 65_536, any, u32::MAX]);
+            let probes = rng.pick(&[0, 1, 1_000, 12_500, 12_501, any, u32::MAX]);
+            by_count(busy, probes, stamp)
         }
         3 => {
             let id = rng.next_u32();
@@ -200,7 +248,13 @@ fn fits(call: &LogCall) -> bool {
         LogCall::Make {
             profile, oldway, ..
         } => *profile < 256 && *oldway < 2,
-        LogCall::On(Call::SampleWords { words, .. }) => words.len() == 16 && words[15] < 1 << 40,
+        LogCall::On(Call::SampleWords { probes, words, .. }) => {
+            let enough = words.len() == probes.div_ceil(64) as usize;
+            let rest = probes % 64;
+            let clean = rest == 0 || words.last().is_some_and(|last| last >> rest == 0);
+            (1..=12_500).contains(probes) && enough && clean
+        }
+        LogCall::On(Call::SampleCount { probes, .. }) => *probes > 0,
         LogCall::On(Call::Offer {
             priority, ontime, ..
         }) => *priority < 256 && *ontime < 65_536,
@@ -222,8 +276,13 @@ fn calls_go_there_and_back() {
             continue;
         }
         let same = match &call {
-            LogCall::On(Call::SampleWords { words, stamp }) => {
-                by_count(words.iter().map(|word| word.count_ones()).sum(), *stamp)
+            LogCall::On(Call::SampleWords {
+                probes,
+                words,
+                stamp,
+            }) => {
+                let busy = words.iter().map(|word| word.count_ones()).sum();
+                by_count(busy, *probes, *stamp)
             }
             other => other.clone(),
         };
@@ -232,13 +291,13 @@ fn calls_go_there_and_back() {
     assert!(refusals > 5_000);
 }
 
-/// Whether a record of kind 0 to 3 has zeros in what its kind ignores, and 0 or
-/// 1 as a make's lifetime.
+/// Whether a record of kind 0 to 3 has zeros in what its kind ignores, 0 or 1
+/// as a make's lifetime, and not 1,000 as a sample's.
 fn goes_back(bytes: &[u8; 16]) -> bool {
     let zero = |from: usize, to: usize| bytes[from..to].iter().all(|byte| *byte == 0);
     match bytes[0] {
         0 => zero(2, 4) && bytes[4] < 2 && zero(5, 8) && zero(8, 12),
-        1 => zero(1, 8),
+        1 => zero(1, 4) && bytes[4..8] != 1_000u32.to_le_bytes(),
         2 => true,
         _ => zero(1, 12),
     }
@@ -259,6 +318,9 @@ fn records_go_there_and_back() {
                 *byte = u8::from(rng.one_in(30));
             }
         }
+        if rng.one_in(20) {
+            bytes[4..8].copy_from_slice(&1_000u32.to_le_bytes());
+        }
         let back = record_of(&read(&Record::from_bytes(&bytes)).unwrap());
         let back = back.map(|record| record.to_bytes());
         assert_eq!(back == Ok(bytes), goes_back(&bytes), "{bytes:?}");
@@ -277,7 +339,8 @@ fn one_byte_that_is_ignored_does_not_come_back() {
     for (call, ignored) in [
         (make(1, 0, 9), vec![2, 3, 8, 9, 10, 11]),
         (make(1, 1, 9), vec![2, 3, 5, 6, 7, 8, 9, 10, 11]),
-        (by_count(400, 9), vec![1, 2, 3, 4, 5, 6, 7]),
+        (by_count(400, 1_000, 9), vec![1, 2, 3]),
+        (by_count(400, 12_500, 9), vec![1, 2, 3]),
         (poll(9), (1..12).collect()),
     ] {
         let bytes = written(&call);
@@ -329,11 +392,11 @@ fn a_place_without_16_bytes_is_refused_with_12() {
 }
 
 /// Words with so many busy probes, anywhere.
-fn scattered(rng: &mut Rng, busy: u32) -> Vec<u64> {
-    let mut words = vec![0u64; 16];
+fn scattered(rng: &mut Rng, busy: u32, probes: u32) -> Vec<u64> {
+    let mut words = words_of(0, probes);
     let mut left = busy;
     while left > 0 {
-        let k = rng.below(1_000) as usize;
+        let k = rng.below(u64::from(probes)) as usize;
         let bit = 1 << (k % 64);
         if words[k / 64] & bit == 0 {
             words[k / 64] |= bit;
@@ -343,8 +406,8 @@ fn scattered(rng: &mut Rng, busy: u32) -> Vec<u64> {
     words
 }
 
-/// Two good samples with the same count and stamp share a record; from the
-/// same state, with the same calls after, the answers are the same.
+/// Two good samples with the same count, probe count and stamp share a record;
+/// from the same state, with the same calls after, the answers are the same.
 #[test]
 fn samples_of_one_record_are_alike() {
     for profile in PROFILES {
@@ -355,11 +418,14 @@ fn samples_of_one_record_are_alike() {
             for _ in 0..rng.below(10) {
                 state = gate::call(state, &caller.call(state.stamp)).0;
             }
-            let (busy, stamp) = (rng.below(1_001) as u32, state.stamp);
-            let [one, other] = [0; 2].map(|_| scattered(&mut rng, busy));
-            let [one, other] = [by_words(&one, stamp), by_words(&other, stamp)];
+            let any = 1 + rng.below(12_500) as u32;
+            let (probes, stamp) = (rng.pick(&[1_000, 12_500, any]), state.stamp);
+            let busy = rng.below(u64::from(probes) + 1) as u32;
+            let [one, other] = [0; 2].map(|_| scattered(&mut rng, busy, probes));
+            let [one, other] = [one, other].map(|words| by_words(probes, &words, stamp));
             assert_eq!(written(&one), written(&other), "seed {seed}");
-            let mut states = [one, other, by_count(busy, stamp)].map(|sample| match sample {
+            let counted = by_count(busy, probes, stamp);
+            let mut states = [one, other, counted].map(|sample| match sample {
                 LogCall::On(call) => gate::call(state, &call),
                 LogCall::Make { .. } => panic!("a sample is no make"),
             });
