@@ -52,11 +52,11 @@ has-room bytes room z =
     (λ e. absurd (omega (arith, rw e at z)))
 
 -- no row has a number over 255
-abbrev Small : List Check → Type 0
+abbrev pub Small : List Check → Type 0
 Small [] = Unit {0}
 Small (c ∷ cs) = (c .number < 256) × Small cs
 
-first-small : (table : List Check) → Small table → firstOf table < 256
+pub first-small : (table : List Check) → Small table → firstOf table < 256
 unfolding firstOf
 first-small [] h = omega arith
 first-small (c ∷ cs) h = on-cond (λ (n : ℕ). n < 256) (c .holds) (λ e. h .0) (λ e. first-small cs (h .1))

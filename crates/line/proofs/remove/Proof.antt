@@ -1,0 +1,97 @@
+-- The loop's invariant: what is kept so far, and what is to come of the packets that are left.
+use Prim.Native.Nat.{_-_, _≤_, _<_}
+use mathlib.Core.Path.{_≡_, _∙_, sym, ap, refl}
+use mathlib.Core.List.{_++_}
+use mathlib.Core.Logic.{⊎-elim}
+use lib.ListN.{length, take, drop, getD}
+use native.Mathlib.Omega.{arith}
+use Rattle.model.specs.Packets.{noPacket}
+use Rattle.line.specs.Line.{without}
+use Rattle.line.specs.Layout.{items, packed, Packed}
+use Rattle.line.proofs.Known.{twenty}
+use Rattle.line.proofs.Packing.{packed-Packed, items-packed}
+use Rattle.line.proofs.Removing.{Removing, removing-none, turn-gone, turn-found, turn-passed, removed}
+use borrow.Author.Needs.{needs}
+use Rattle.line.proofs.remove.Statement.{statement}
+use Rattle.line.proofs.remove.Tie as tie
+use Rattle.line.proofs.empty.Reads as empty-reads
+use Rattle.line.proofs.push.Reads as push-reads
+
+abbrev Inv-loop : tie.InvT-loop
+Inv-loop priority l n left₀ gone₀ i₀ left gone i = Removing (l .packets) n priority left gone i
+
+abbrev μ-loop : tie.MeasureT-loop
+μ-loop priority l n left₀ gone₀ i₀ left gone i = n - i
+
+long : (c : tie.Start Inv-loop μ-loop) → c .args .t1 .len ≤ length (c .args .t1 .packets)
+long c = omega (arith, c .pre, twenty (c .args .t1) _ (c .good .0))
+
+empty-requires : tie.Need-empty-requires Inv-loop μ-loop
+empty-requires c κs = search needs
+
+loop-holds : tie.Need-loop-holds Inv-loop μ-loop
+loop-holds c = removing-none _ _ _ _ (c .empty .ensures)
+
+mul-p : tie.Need-mul-p Inv-loop μ-loop
+mul-p c = search needs
+
+element-copy-out-p : tie.Need-element-copy-out-p Inv-loop μ-loop
+element-copy-out-p c = search needs
+
+push-requires : tie.Need-push-requires Inv-loop μ-loop
+push-requires c κs =
+    let a = c .before .before .before in
+    (a .loop .inv .1, omega (arith, a .loop .inv .3, a .before .before .pre))
+
+push-requires-2 : tie.Need-push-requires-2 Inv-loop μ-loop
+push-requires-2 c κs =
+    let a = c .before .before .before .before .before in
+    (a .loop .inv .1, omega (arith, a .loop .inv .3, a .before .before .pre))
+
+add-i : tie.Need-add-i Inv-loop μ-loop
+add-i c = search needs
+
+loop-less : tie.Need-loop-less Inv-loop μ-loop
+loop-less c = search needs
+
+loop-again : tie.Need-loop-again Inv-loop μ-loop
+loop-again c =
+    let a = c .before .before .before in
+    let s = a .before .before in
+    let ps = s .args .t1 .packets in
+    let n = s .args .t1 .len in
+    let k = s .args .priority in
+    let h : a .loop .i < n = omega arith in
+    ⊎-elim
+    (λ w. turn-gone ps n (a .loop .i) k (long s) h (a .loop .left) _ (a .loop .gone) _ (w .0 .taken) (w .2 ∙ w .1 .ensures)
+    (w .3) (a .loop .inv))
+    (⊎-elim
+    (λ w. turn-found ps n (a .loop .i) k (long s) h (a .loop .left) _ (a .loop .gone) _ (w .0 .left) (w .2 .taken) (w .3)
+    (w .4) (a .loop .inv))
+    (λ w. turn-passed ps n (a .loop .i) k (long s) h (a .loop .left) _ (a .loop .gone) _ (w .0 .left) (w .2 .left)
+    (w .4 ∙ w .3 .ensures) (w .5) (a .loop .inv)))
+    (c .if1 .came)
+
+returns : tie.Need-returns Inv-loop μ-loop
+returns c =
+    let a = c .before in
+    let s = a .before .before in
+    removed (s .args .t1 .packets) (s .args .t1 .len) (a .loop .i) (s .args .priority) (long s) (omega arith) (a .loop .left)
+    (a .loop .gone) (a .loop .inv)
+
+pub remove-spec : {M : Type 1} → statement M
+remove-spec =
+    tie.close
+    (tie.spec
+    Inv-loop
+    μ-loop
+    empty-requires
+    loop-holds
+    mul-p
+    element-copy-out-p
+    push-requires
+    push-requires-2
+    add-i
+    loop-less
+    loop-again
+    returns)

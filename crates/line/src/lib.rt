@@ -1,0 +1,196 @@
+// One list of up to 20 packets in order of arrival: push, count, expire, pick, remove, sound.
+ghost use mathlib.Core.Path.{_≡_};
+ghost use mathlib.Core.Bool.{true, _&&_};
+ghost use mathlib.Core.List.{[]};
+ghost use Prim.Native.Nat.{_<_, _≤_};
+ghost use lib.Dec.{leb};
+ghost use lib.ListN.{drop};
+ghost use Rattle.packing.specs.Packing.{allAre};
+ghost use Rattle.model.specs.Packets.{withoutExpired, atBack, inOrder, chosen};
+ghost use Rattle.queue.specs.Layout.{isZero};
+ghost use Rattle.line.specs.Line.{countOf, without, picked, allowedPacket};
+ghost use Rattle.line.specs.Layout.{places, items, packed, Packed, soundLine};
+use model::Packet;
+
+// The first `len` places hold the waiting packets in order of arrival; the others are zero.
+#[repr(C)]
+pub struct Line {
+    pub len: usize,
+    pub packets: [Packet; 20],
+}
+
+pub const PLACES: usize = 20;
+
+pub const MOST_OF_A_PRIORITY: usize = 5;
+
+// A line without packets.
+pub fn empty() -> Line
+    ensures { λ r. ⌜ r ≡ packed [] ⌝ }
+{
+    let z = queue::NO_PACKET;
+    let packets = [z; 20];
+    Line { len: 0, packets }
+}
+
+// One more packet, the last to come.
+pub fn push(mut l: Line, p: Packet) -> Line
+    requires { ⌜ Packed l ⌝ }
+    requires { ⌜ l .len < places ⌝ }
+    ensures { λ r. ⌜ r ≡ packed (atBack p (items l)) ⌝ }
+{
+    let n = l.len;
+    l.packets[n] = p;
+    l.len = n + 1;
+    l
+}
+
+// How many of a priority wait.
+pub fn count_of(l: Line, priority: u32) -> usize
+    requires { ⌜ l .len ≤ places ⌝ }
+    ensures { λ r. ⌜ r ≡ countOf priority (items l) ⌝ }
+{
+    let n = l.len;
+    let mut count: usize = 0;
+    let mut i: usize = 0;
+    while i < n {
+        let p = l.packets[i];
+        if p.priority == priority {
+            count += 1;
+        }
+        i += 1;
+    }
+    count
+}
+
+// The line without its expired packets.
+pub fn expire(l: Line, now: u64) -> Line
+    requires { ⌜ l .len ≤ places ⌝ }
+    ensures { λ r. ⌜ r ≡ packed (withoutExpired now (items l)) ⌝ }
+{
+    let n = l.len;
+    let mut left = empty();
+    let mut i: usize = 0;
+    while i < n {
+        let p = l.packets[i];
+        if queue::is_unexpired(p, now) {
+            left = push(left, p);
+        }
+        i += 1;
+    }
+    left
+}
+
+// The packet with the lowest priority number, of those the first to come.
+pub fn pick(l: Line) -> Packet
+    requires { ⌜ (0 < l .len) × (l .len ≤ places) ⌝ }
+    ensures { λ r. ⌜ picked (items l) ≡ chosen r (without (r .priority) (items l)) ⌝ }
+{
+    let n = l.len;
+    let mut found = l.packets[0];
+    let mut i: usize = 1;
+    while i < n {
+        let p = l.packets[i];
+        if p.priority < found.priority {
+            found = p;
+        }
+        i += 1;
+    }
+    found
+}
+
+// The line without the first packet of a priority.
+pub fn remove(l: Line, priority: u32) -> Line
+    requires { ⌜ l .len ≤ places ⌝ }
+    ensures { λ r. ⌜ r ≡ packed (without priority (items l)) ⌝ }
+{
+    let n = l.len;
+    let mut left = empty();
+    let mut gone = false;
+    let mut i: usize = 0;
+    while i < n {
+        let p = l.packets[i];
+        if gone {
+            left = push(left, p);
+        } else if p.priority == priority {
+            gone = true;
+        } else {
+            left = push(left, p);
+        }
+        i += 1;
+    }
+    left
+}
+
+// Whether a waiting packet is within its limits and came no earlier than the one before it.
+fn is_packet_sound(p: Packet, profile: u32, now: u64, since: u64) -> bool
+    ensures { λ r. ⌜ r ≡ (allowedPacket profile now p && leb since (p .arrival)) ⌝ }
+{
+    if rules::LAST_PRIORITY < p.priority {
+        return false;
+    }
+    if !queue::is_within_limits(p, profile, now) {
+        return false;
+    }
+    since <= p.arrival
+}
+
+// Whether the packets are within their limits and in order of arrival.
+fn are_packets_sound(l: Line, profile: u32, now: u64) -> bool
+    requires { ⌜ l .len ≤ places ⌝ }
+    ensures { λ r. ⌜ r ≡ inOrder (allowedPacket profile now) 0 (items l) ⌝ }
+{
+    let n = l.len;
+    let mut since: u64 = 0;
+    let mut i: usize = 0;
+    while i < n {
+        let p = l.packets[i];
+        if !is_packet_sound(p, profile, now, since) {
+            return false;
+        }
+        since = p.arrival;
+        i += 1;
+    }
+    true
+}
+
+// Whether the unused places are zero.
+fn is_rest_zero(l: Line) -> bool
+    requires { ⌜ l .len ≤ places ⌝ }
+    ensures { λ r. ⌜ r ≡ allAre isZero (drop (l .len) (l .packets)) ⌝ }
+{
+    let mut i = l.len;
+    while i < 20 {
+        let p = l.packets[i];
+        if !queue::is_zero(p) {
+            return false;
+        }
+        i += 1;
+    }
+    true
+}
+
+// Whether a line is sound; one that is holds nothing but its packets.
+pub fn is_sound(l: Line, profile: u32, now: u64) -> bool
+    ensures exact { λ r. ⌜ r ≡ soundLine profile now l ⌝ }
+    ensures tight { λ r. ⌜ (r ≡ true → Packed l) ⌝ }
+{
+    if PLACES < l.len {
+        return false;
+    }
+    if !is_rest_zero(l) {
+        return false;
+    }
+    if !are_packets_sound(l, profile, now) {
+        return false;
+    }
+    if MOST_OF_A_PRIORITY < count_of(l, 0) {
+        return false;
+    }
+    if MOST_OF_A_PRIORITY < count_of(l, 1) {
+        return false;
+    }
+    if MOST_OF_A_PRIORITY < count_of(l, 2) {
+        return false;
+    }
+    count_of(l, 3) <= MOST_OF_A_PRIORITY
+}

@@ -1,0 +1,207 @@
+-- A call on a sound state reads as the model's call on what it says, for the plain engine as for the gate; so states that say the
+-- same go on saying the same, call by call and record by record of a burst, and demand 3 carries over.
+use Prim.Native.Nat.{ℕ, zero, suc, _*_}
+use mathlib.Core.Path.{_≡_, refl, ap, ap₂, sym, _∙_, subst⁻¹}
+use mathlib.Core.Bool.{Bool, true, false, cond}
+use mathlib.Core.List.{List, [], _∷_, _++_}
+use Rattle.rules.proofs.Cases.{split, on-cond}
+use Rattle.model.specs.declared.Answer.{Answer}
+use Rattle.model.specs.declared.Answer.the-variants.{Ready}
+use Rattle.model.specs.Queues.{inQueues}
+use Rattle.model.specs.Calls.{Call, Making, isRefused}
+use Rattle.model.specs.State.{View, sound}
+use Rattle.model.specs.Effects.{Result}
+use Rattle.model.specs.Gate.{makeIn, make, call}
+use Rattle.model.specs.Journal.{opened, journalOf}
+use Rattle.model.specs.Claims.{Claims, viewAfter}
+use Rattle.model.proofs.Refusals.{refusals-change-nothing}
+use Rattle.model.proofs.Sound.{forty-are-enough}
+use Rattle.model.proofs.Demand3.{demand3}
+use Rattle.ledger.proofs.Meaning.{packed-tidy}
+use Rattle.line.specs.Line.{inList, Listed, listRules}
+use Rattle.line.specs.Same.{inParts}
+use Rattle.line.proofs.Packing.{tidy-packed}
+use Rattle.line.proofs.Rules.{at-most-twenty}
+use Rattle.line.proofs.Alike as alike
+use Rattle.line.proofs.Agree.{Parted, parts-alike, sound-tied, parts-sound, tied-parts, sound-lists-agree, made-alike}
+use Rattle.gate.specs.declared.State as gate-state
+use Rattle.gate.specs.Layout as gate
+use Rattle.gate.proofs.Views as gate-views
+use Rattle.gate.proofs.Runs as gate-runs
+use Rattle.calllog.specs.declared.Record.{Record}
+use Rattle.calllog.specs.Records.{recordBytes, recordAt}
+use Rattle.calllog.specs.Buffers.{written}
+use Rattle.calllog.specs.Bursts.{isOffer, offerOf, answerByte, isAccepted, recordsIn, heardTo, Move, one, burst}
+use Rattle.calllog.specs.Bursts as gate-bursts
+use Rattle.calllog.proofs.Bursting.{runs-with-bursts}
+use Rattle.plain.specs.declared.State.{State}
+use Rattle.plain.specs.declared.Outcome.{Outcome}
+use Rattle.plain.specs.Layout.{viewOf, stateOf, soundState, callOn, makeState}
+use Rattle.plain.specs.Bursts.{offeredBy, offeredTo, answersTo, burstState, burstAnswers}
+use Rattle.plain.specs.Bursts.{moved, heardOf, movedAll, allHeard}
+use Rattle.plain.specs.Runs.{SameMoves, SoundStatesAgree, SameRun, Agrees}
+use Rattle.plain.proofs.Views.{view-state, sound-parts}
+use Rattle.plain.proofs.Polling.{packets-of}
+
+-- a sound list laid out is a sound state
+state-sound : (v : Listed) → sound v ≡ true → soundState (stateOf v) ≡ true
+unfolding soundState
+state-sound v e =
+    rw (
+      tidy-packed (v .waiting) (at-most-twenty (v .control .profile) (v .clock .time) (v .waiting) (packets-of v e)),
+      packed-tidy (v .ledger) (forty-are-enough v e),
+      view-state v,
+    )
+    e
+
+-- what a state's outcome has in common with the model's result
+abbrev Reads : Result inList → Outcome → Type 0
+Reads w o = (viewOf (o .state) ≡ w .view) × (o .answer ≡ w .answer) × (soundState (o .state) ≡ true)
+
+keeps-sound : (v : Listed) (c : Call) → sound v ≡ true → sound (call v c .view) ≡ true
+unfolding viewAfter
+keeps-sound v c e = sound-lists-agree v (c ∷ []) e .sound-throughout
+
+call-reads : (s : State) (c : Call) → soundState s ≡ true → Reads (call (viewOf s) c) (callOn s c)
+unfolding callOn
+call-reads s c e =
+    rw e
+    (on-cond (Reads w) (isRefused (w .answer))
+    (λ r. (sym (refusals-change-nothing (viewOf s) c r), refl, e))
+    (λ r. (view-state (w .view), refl, state-sound (w .view) (keeps-sound (viewOf s) c (sound-parts s e .2)))))
+  where
+    w : Result inList
+    w = call (viewOf s) c
+
+-- two sound states that say the same
+pub record Same (s : State) (t : gate-state.State) : Type 0 where
+  pub here : soundState s ≡ true
+  pub there : gate.soundState t ≡ true
+  pub says : inParts (viewOf s) ≡ gate.viewOf t
+
+-- one call
+same-call : (s : State) (t : gate-state.State) (c : Call) → Same s t
+    → (callOn s c .answer ≡ gate.callOn t c .answer) × Same (callOn s c .state) (gate.callOn t c .state)
+same-call s t c h =
+    let v = viewOf s in
+    let r = call-reads s c (h .here) in
+    let q = gate-runs.call-reads t c (h .there) in
+    let k = alike.call-alike inList inQueues Parted parts-alike v (inParts v) c (sound-tied v (sound-parts s (h .here) .2)) in (
+      r .1 ∙ k .0 ∙ ap (λ (x : View). call x c .answer) (h .says) ∙ sym (q .1),
+      record {
+        here = r .2;
+        there = q .2;
+        says =
+            ap inParts (r .0) ∙ tied-parts (call v c .view) (call (inParts v) c .view) (k .1)
+            ∙ ap (λ (x : View). call x c .view) (h .says)
+            ∙ sym (q .0);
+      },
+    )
+
+-- one record, the first n, a whole burst
+same-record : (s : State) (t : gate-state.State) (rec : Record) → Same s t
+    → (offeredBy s rec .answer ≡ gate-bursts.offeredBy t rec .answer)
+    × Same (offeredBy s rec .state) (gate-bursts.offeredBy t rec .state)
+unfolding offeredBy gate-bursts.offeredBy
+same-record s t rec h = split (isOffer rec) (λ e. rw e (same-call s t (offerOf rec) h)) (λ e. rw e (refl, h))
+
+same-to : (s : State) (t : gate-state.State) (records : List ℕ) (n : ℕ) → Same s t
+    → (answersTo s records n ≡ gate-bursts.answersTo t records n)
+    × Same (offeredTo s records n) (gate-bursts.offeredTo t records n)
+unfolding answersTo offeredTo gate-bursts.answersTo gate-bursts.offeredTo
+same-to s t records zero h = (refl, h)
+same-to s t records (suc n) h =
+    let r = same-to s t records n h in
+    let k = same-record (offeredTo s records n) (gate-bursts.offeredTo t records n) (recordAt records (recordBytes * n)) (r .1) in
+    (ap₂ (λ (a : List ℕ) (b : Answer). a ++ (answerByte b ∷ [])) (r .0) (k .0), k .1)
+
+same-bytes : (s : State) (t : gate-state.State) (records answers : List ℕ) → Same s t
+    → burstAnswers s records answers ≡ gate-bursts.burstAnswers t records answers
+unfolding burstAnswers gate-bursts.burstAnswers
+same-bytes s t records answers h =
+    ap (λ (text : List ℕ). cond (isAccepted records answers) (written answers 0 text) answers)
+    (same-to s t records (recordsIn records) h .0)
+
+same-after : (s : State) (t : gate-state.State) (records answers : List ℕ) → Same s t
+    → Same (burstState s records answers) (gate-bursts.burstState t records answers)
+unfolding burstState gate-bursts.burstState
+same-after s t records answers h =
+    split (isAccepted records answers) (λ e. rw e (same-to s t records (recordsIn records) h .1)) (λ e. rw e h)
+
+-- one move, and a list of them
+same-move : (s : State) (t : gate-state.State) (m : Move) → Same s t
+    → (heardOf s m ≡ gate-bursts.heardOf t m) × Same (moved s m) (gate-bursts.moved t m)
+same-move s t (one c) h =
+    let k = same-call s t c h in (ap (λ (a : Answer). (c, a) ∷ []) (k .0), k .1)
+same-move s t (burst records answers) h = (
+  ap (λ (bytes : List ℕ). cond (isAccepted records answers) (heardTo records bytes (recordsIn records)) [])
+      (same-bytes s t records answers h),
+  same-after s t records answers h,
+)
+
+same-all : (s : State) (t : gate-state.State) (ms : List Move) → Same s t
+    → (allHeard s ms ≡ gate-bursts.allHeard t ms) × Same (movedAll s ms) (gate-bursts.movedAll t ms)
+unfolding allHeard movedAll gate-bursts.allHeard gate-bursts.movedAll
+same-all s t [] h = (refl, h)
+same-all s t (m ∷ ms) h =
+    let k = same-move s t m h in
+    let r = same-all (moved s m) (gate-bursts.moved t m) ms (k .1) in
+    (ap₂ (λ (a b : List (Call × Answer)). a ++ b) (k .0) (r .0), r .1)
+
+same-moves : (s : State) (t : gate-state.State) (ms : List Move) → Same s t → SameMoves s t ms
+same-moves s t ms h =
+    let r = same-all s t ms h in
+    record {
+      answers = r .0;
+      bytes = λ records answers. same-bytes (movedAll s ms) (gate-bursts.movedAll t ms) records answers (r .1);
+      counts = ap (λ (v : View). v .counts) (r .1 .says);
+      states = r .1 .says;
+      sound-state = r .1 .here;
+    }
+
+pub sound-states-agree : SoundStatesAgree
+sound-states-agree s t ms a b e = same-moves s t ms (record { here = a; there = b; says = e })
+
+-- what the two makes give
+begins : (m : Making) → make m .answer ≡ Ready → sound (make m .view) ≡ true
+unfolding viewAfter
+begins m ready = demand3 m [] ready .sound-throughout
+
+made-same : (m : Making) → make m .answer ≡ Ready → Same (makeState m .state) (gate.makeState m .state)
+unfolding makeState gate.makeState
+made-same m ready =
+    let v = makeIn inList m .view in
+    let w = make m .view in
+    let t = made-alike m .1 in
+    let e = begins m ready in
+    record {
+      here = state-sound v (parts-sound v w t ∙ e);
+      there = gate-runs.state-sound w e;
+      says = ap inParts (view-state v) ∙ tied-parts v w t ∙ sym (gate-views.view-state w);
+    }
+
+same-made : (m : Making) → makeState m .answer ≡ gate.makeState m .answer
+unfolding makeState gate.makeState
+same-made m = made-alike m .0
+
+gate-ready : (m : Making) → gate.makeState m .answer ≡ Ready → make m .answer ≡ Ready
+unfolding gate.makeState
+gate-ready m e = e
+
+same-run : (m : Making) → gate.makeState m .answer ≡ Ready → (ms : List Move) → SameRun m (makeState m .state) ms
+same-run m ready ms =
+    let s = makeState m .state in
+    let t = gate.makeState m .state in
+    let r = same-moves s t ms (made-same m (gate-ready m ready)) in
+    let there = runs-with-bursts m ms ready in
+    record {
+      same = r;
+      claims =
+          subst⁻¹ (λ (v : View). Claims (m .profile) v (journalOf (opened (m .stamp)) (allHeard s ms))) (r .states)
+          (subst⁻¹ (λ (l : List (Call × Answer)).
+          Claims (m .profile) (gate.viewOf (gate-bursts.movedAll t ms)) (journalOf (opened (m .stamp)) l))
+          (r .answers) (there .claims));
+    }
+
+pub make-agrees : (m : Making) → Agrees (makeState m) m
+make-agrees m = record { made = same-made m; runs = λ ready. same-run m (sym (same-made m) ∙ ready) }

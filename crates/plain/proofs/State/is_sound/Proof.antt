@@ -1,0 +1,115 @@
+-- One group after the other: the first that fails makes the state unsound, and the ledger decides.
+use Prim.Native.Nat.{_≤_}
+use mathlib.Core.Path.{_≡_, sym, _∙_}
+use mathlib.Core.Bool.{true}
+use native.Mathlib.Omega.{arith}
+use lib.Dec.{leb}
+use borrow.Author.Tests.{le-leb, not-true, not-false}
+use Rattle.plain.proofs.Known.{forty-of}
+use Rattle.plain.proofs.Judged.{no, unsound-live, unsound-way, unsound-control, unsound-time, unsound-last, unsound-line}
+use Rattle.plain.proofs.Judged.{unsound-counts, in-time, by-ledger, ledger-tight, laid-out}
+use borrow.Author.Needs.{needs}
+use Rattle.plain.proofs.State.is_sound.Statement.{statement}
+use Rattle.plain.proofs.State.is_sound.Tie as tie
+
+returns : tie.Need-returns
+returns c = no _ _ (unsound-live (c .before .before .args .self) (c .if1 .taken))
+
+returns-2 : tie.Need-returns-2
+returns-2 c = no _ _ (unsound-way (c .before .before .before .before .args .self) (omega (arith, c .if2 .taken)))
+
+is-sound-requires : tie.Need-is-sound-requires
+is-sound-requires c κs = search needs
+
+returns-3 : tie.Need-returns-3
+returns-3 c =
+    no _ _ (unsound-control (c .before .before .before .before .before .before .before .args .self)
+    (sym (c .before .is-sound .ensures) ∙ not-true _ (c .if3 .taken)))
+
+passes-end-requires : tie.Need-passes-end-requires
+passes-end-requires c κs = search needs
+
+returns-4 : tie.Need-returns-4
+returns-4 c =
+    no _ _ (unsound-time (c .before .before .before .before .before .before .before .before .before .args .self)
+    (sym (c .before .passes-end .ensures) ∙ c .if4 .taken))
+
+is-last-sound-requires : tie.Need-is-last-sound-requires
+is-last-sound-requires c κs = search needs
+
+returns-5 : tie.Need-returns-5
+returns-5 c =
+    no _ _ (unsound-last
+    (c .before .before .before .before .before .before .before .before .before .before .before .before .args .self)
+    (sym (c .before .is-last-sound .ensures) ∙ not-true _ (c .if5 .taken)))
+
+is-sound-requires-2 : tie.Need-is-sound-requires-2
+is-sound-requires-2 c κs = search needs
+
+returns-6 : tie.Need-returns-6
+returns-6 c =
+    let line = c .before in
+    let last = line .before .before .before in
+    let time = last .before .before .before in
+    let s = time .before .before .before .before .before .before .before .before in
+    no _ _ (unsound-line (s .args .self) (sym (line .is-sound2 .ensures .0) ∙ not-true _ (c .if6 .taken)))
+
+are-counts-sound-requires : tie.Need-are-counts-sound-requires
+are-counts-sound-requires c κs = search needs
+
+returns-7 : tie.Need-returns-7
+returns-7 c =
+    let line = c .before .before .before .before in
+    let time = line .before .before .before .before .before .before in
+    let s = time .before .before .before .before .before .before .before .before in
+    let tight = line .is-sound2 .ensures .1 (not-false _ (c .before .before .before .if6 .left)) in
+    no _ _ (unsound-counts (s .args .self) tight (sym (c .before .are-counts-sound .ensures) ∙ not-true _ (c .if7 .taken)))
+
+is-sound-requires-3 : tie.Need-is-sound-requires-3
+is-sound-requires-3 c κs =
+    in-time _
+    (sym (c .before .before .before .before .before .before .before .before .before .before .before .passes-end .ensures)
+    ∙ c .before .before .before .before .before .before .before .before .before .before .if4 .left)
+
+returns-8 : tie.Need-returns-8
+returns-8 c =
+    let counts = c .before .before .before in
+    let line = counts .before .before .before in
+    let last = line .before .before .before in
+    let time = last .before .before .before in
+    let control = time .before .before in
+    let way = control .before .before in
+    let live = way .before .before in
+    let s = live .before .before in
+    let tight = line .is-sound2 .ensures .1 (not-false _ (counts .before .before .if6 .left)) in
+    let old-or-new : leb (s .args .self .oldway) 1 ≡ true =
+    le-leb (s .args .self .oldway) 1 (omega (arith, way .if2 .left)) in
+    let steered = sym (control .is-sound .ensures) ∙ not-false _ (time .before .if3 .left) in
+    let timely = sym (time .passes-end .ensures) ∙ last .before .before .if4 .left in
+    let lasting = sym (last .is-last-sound .ensures) ∙ not-false _ (line .before .before .if5 .left) in
+    let lined = sym (line .is-sound2 .ensures .0) ∙ not-false _ (counts .before .before .if6 .left) in
+    let counted = sym (counts .are-counts-sound .ensures) ∙ not-false _ (c .before .before .if7 .left) in
+    let same = by-ledger (s .args .self) (live .if1 .left) old-or-new steered timely lasting lined tight counted in (
+      c .is-sound3 .ensures ∙ sym same,
+      λ z. laid-out (s .args .self) tight
+          (ledger-tight (s .args .self) (forty-of (s .args .self) _ (s .good .0)) (sym (c .is-sound3 .ensures) ∙ z)),
+    )
+
+pub is-sound-spec : {M : Type 1} → statement M
+is-sound-spec =
+    tie.close
+    (tie.spec
+    returns
+    returns-2
+    is-sound-requires
+    returns-3
+    passes-end-requires
+    returns-4
+    is-last-sound-requires
+    returns-5
+    is-sound-requires-2
+    returns-6
+    are-counts-sound-requires
+    returns-7
+    is-sound-requires-3
+    returns-8)

@@ -1,0 +1,92 @@
+-- How the plain engine's state lays out a state with one list, and its calls: the model's call on what the
+-- state says, laid out (document 01, "State and calls"; document 02, W-212).
+use Prim.Native.Nat.{ℕ}
+use mathlib.Core.Path.{_≡_}
+use mathlib.Core.Bool.{Bool, true, cond, _&&_}
+use mathlib.Core.List.{List}
+use Rattle.rules.specs.Tests.{allOf}
+use Rattle.rules.specs.Clock.{stepOf, goesBack, passesEnd}
+use Rattle.control.specs.Control.{controlOf}
+use Rattle.model.specs.declared.Answer.{Answer}
+use Rattle.model.specs.declared.Answer.the-variants.{Refused}
+use Rattle.model.specs.Calls.{Call, Making, isRefused}
+use Rattle.model.specs.declared.Admission.{Admission}
+use Rattle.model.specs.declared.Last.{Last}
+use Rattle.model.specs.Ledger.{places, ledgerRules}
+use Rattle.model.specs.State.{statusFrom, sound}
+use Rattle.model.specs.Effects.{Result, stepped}
+use Rattle.model.specs.Gate.{makeIn, call}
+use Rattle.ledger.specs.Layout as ledger
+use Rattle.line.specs.Line.{inList, Listed}
+use Rattle.line.specs.Layout.{items, packed, tidy}
+use Rattle.plain.specs.declared.State.{State}
+use Rattle.plain.specs.declared.Outcome.{Outcome}
+
+-- a state read as the model's state with one list
+abbrev pub viewOf : State → Listed
+viewOf s =
+    statusFrom (s .live) (s .oldway) (s .clock) (controlOf (s .profile) (s .tuning)) (s .last)
+    (ledger.items (s .ledger)) (s .counts) (items (s .line))
+
+-- and laid out again
+abbrev pub stateOf : Listed → State
+stateOf v =
+    record {
+      line = packed (v .waiting);
+      ledger = ledger.packed (v .ledger);
+      clock = v .clock;
+      last = v .last;
+      counts = v .counts;
+      tuning = v .control .tuning;
+      profile = v .control .profile;
+      oldway = v .oldway;
+      live = v .live;
+    }
+
+-- a state that holds nothing but what it says
+abbrev pub LaidOut : State → Type 0
+LaidOut s = s ≡ stateOf (viewOf s)
+
+-- "A state is sound if": what it says is, and everything unused in its line and its ledger is zero
+unfoldable pub soundState : State → Bool
+soundState s = (tidy (s .line) && ledger.tidy (s .ledger)) && sound (viewOf s)
+
+-- what the engine's inner functions are given: a sound state
+abbrev pub Given : State → Type 0
+Given s = LaidOut s × (sound (viewOf s) ≡ true)
+
+-- admissions that a sound state had
+pub record InOrder (l : List Admission) : Type 0 where
+  pub profile : ℕ
+  pub now : ℕ
+  pub last : Last
+  pub rules : allOf (ledgerRules profile now last l) ≡ true
+
+-- "40 are enough" (document 02, W-207)
+abbrev pub forty : ℕ
+forty = places
+
+-- the next state and the answer, side by side
+abbrev pub outcome : State → Answer → Outcome
+outcome s a = record { state = s; answer = a }
+
+-- a result of the model, laid out: "A refusal hands back the given state unchanged"
+abbrev pub outcomeOf : State → Result inList → Outcome
+outcomeOf given r =
+    cond (isRefused (r .answer)) (outcome given (r .answer)) (outcome (stateOf (r .view)) (r .answer))
+
+-- "Any other state is refused with 9."
+unfoldable pub callOn : State → Call → Outcome
+callOn s c = cond (soundState s) (outcomeOf s (call (viewOf s) c)) (outcome s (Refused 9))
+
+-- "make": its state laid out, refused or not
+unfoldable pub makeState : Making → Outcome
+makeState m = outcome (stateOf (makeIn inList m .view)) (makeIn inList m .answer)
+
+-- "Checks run 9, 2, 3, then ..": the first that holds of the checks of every call, 0 where none does
+unfoldable pub entryNumber : State → (stamp : ℕ) → ℕ
+entryNumber s stamp =
+    cond (soundState s)
+    (cond (goesBack (stepOf stamp (s .clock .stamp))) 2
+    (cond (passesEnd (stepped (s .clock) stamp .time)) 3 0))
+    9

@@ -1,0 +1,427 @@
+// The plain engine: the gate with one list of packets in order of arrival, written to be read (document 02,
+// W-212).
+ghost use mathlib.Core.Path.{_≡_};
+ghost use mathlib.Core.Bool.{true, _&&_};
+ghost use lib.Dec.{leb, eqb};
+ghost use lib.ListN.{length};
+ghost use Prim.Native.Nat.{_≤_, _<_, max};
+ghost use Rattle.rules.specs.Profiles.{lastPriority, room};
+ghost use Rattle.rules.specs.Refusals.{firstOf};
+ghost use Rattle.control.specs.Control.{controlOf};
+ghost use Rattle.model.specs.declared.Answer.the-variants.{Refused};
+ghost use Rattle.model.specs.Calls.{words, count, offer, poll};
+ghost use Rattle.model.specs.State.{blank, notLive};
+ghost use Rattle.model.specs.Effects.{moved, refreshed, roomMade, joined, waitLeft, airLeft, admits};
+ghost use Rattle.model.specs.Gate.{roomChecks};
+ghost use Rattle.line.specs.Line.{countOf, without};
+ghost use Rattle.line.specs.Layout.{places, items};
+ghost use Rattle.plain.specs.Layout.{viewOf, stateOf, LaidOut, soundState, Given, outcome, callOn};
+ghost use Rattle.plain.specs.Layout.{makeState, entryNumber, forty};
+ghost use Rattle.plain.specs.Bursts.{offeredBy, burstState, burstAnswers};
+ghost use Rattle.calllog.specs.Bursts.{burstNumber};
+ghost use Rattle.plain.specs.Runs.{Agrees};
+use calllog::Record;
+use control::Tuning;
+use ledger::Ledger;
+use line::Line;
+use model::Answer;
+use model::Clock;
+use model::Counts;
+use model::Last;
+use model::Offer;
+use model::Packet;
+use rules::Sample;
+
+pub mod second;
+
+// One engine's state. `oldway` is 1 where an offer of a priority of which five wait is refused, 0 where it
+// displaces the first of those. `live` is 1, or 0 before a make that was not refused.
+#[repr(C)]
+pub struct State {
+    pub line: Line,
+    pub ledger: Ledger,
+    pub clock: Clock,
+    pub last: Last,
+    pub counts: Counts,
+    pub tuning: Tuning,
+    pub profile: u32,
+    pub oldway: u32,
+    pub live: u32,
+}
+
+// What a call gives: the next state and the answer.
+pub struct Outcome {
+    pub state: State,
+    pub answer: Answer,
+}
+
+// Whether an offer is refused for lack of room: only in an engine made in the old way.
+fn refuses_full(oldway: u32, l: Line, priority: u32) -> bool
+    requires { ⌜ l .len ≤ places ⌝ }
+    ensures { λ r. ⌜ r ≡ (eqb oldway 1 && leb room (countOf priority (items l))) ⌝ }
+{
+    if oldway != 1 {
+        return false;
+    }
+    line::MOST_OF_A_PRIORITY <= line::count_of(l, priority)
+}
+
+// What a burst leaves: the state, and the number that refuses it, or 0.
+#[repr(C)]
+pub struct BurstTurn {
+    pub state: State,
+    pub number: u32,
+}
+
+impl State {
+    // Whether a state is sound; one that is holds nothing but what it says.
+    pub fn is_sound(self) -> bool
+        ensures exact { λ r. ⌜ r ≡ soundState self ⌝ }
+        ensures tight { λ r. ⌜ (r ≡ true → LaidOut self) ⌝ }
+    {
+        if self.live != 1 {
+            return false;
+        }
+        if 1 < self.oldway {
+            return false;
+        }
+        let profile = self.profile;
+        let tuning = self.tuning;
+        if !control::is_sound(profile, tuning) {
+            return false;
+        }
+        let now = self.clock.time;
+        if rules::passes_end(now) {
+            return false;
+        }
+        let last = self.last;
+        if !decide::is_last_sound(last, profile, now) {
+            return false;
+        }
+        let line = self.line;
+        if !line::is_sound(line, profile, now) {
+            return false;
+        }
+        let counts = self.counts;
+        if !decide::are_counts_sound(counts, line.len as u64) {
+            return false;
+        }
+        let ledger = self.ledger;
+        second::is_sound(ledger, profile, now, last)
+    }
+
+    // A refusal hands back the given state unchanged.
+    fn refused(self, number: u32) -> Outcome
+        ensures { λ r. ⌜ r ≡ outcome self (Refused number) ⌝ }
+    {
+        Outcome {
+            state: self,
+            answer: Answer::Refused(number),
+        }
+    }
+
+    // The first that holds of the checks of every call, or 0: 9, 2, 3.
+    fn refusal(self, stamp: u32) -> u32
+        ensures exact { λ r. ⌜ r ≡ entryNumber self stamp ⌝ }
+        ensures tight { λ r. ⌜ (r ≡ 0 → LaidOut self) ⌝ }
+    {
+        if !self.is_sound() {
+            return 9;
+        }
+        let given = self.clock;
+        if rules::goes_back(rules::step(stamp, given.stamp)) {
+            return 2;
+        }
+        let clock = decide::clock_at(given, stamp);
+        if rules::passes_end(clock.time) {
+            return 3;
+        }
+        0
+    }
+
+    // The clock moves, and admissions of the last second are dropped that have aged.
+    fn advance(mut self, stamp: u32) -> State
+        requires { ⌜ Given self ⌝ }
+        ensures { λ r. ⌜ r ≡ stateOf (moved (viewOf self) stamp) ⌝ }
+    {
+        let given = self.clock;
+        let clock = decide::clock_at(given, stamp);
+        let ledger = self.ledger;
+        self.ledger = second::age(ledger, clock.time);
+        self.clock = clock;
+        self
+    }
+
+    // First the clock moves, then every expired packet goes.
+    fn refresh(mut self, stamp: u32) -> State
+        requires { ⌜ Given self ⌝ }
+        ensures { λ r. ⌜ r ≡ stateOf (refreshed (viewOf self) stamp) ⌝ }
+    {
+        let mut s = self.advance(stamp);
+        let line = s.line;
+        let left = line::expire(line, s.clock.time);
+        let gone = line.len - left.len;
+        let mut counts = s.counts;
+        counts.expired += gone as u64;
+        s.line = left;
+        s.counts = counts;
+        s
+    }
+
+    // A sample by its busy count.
+    pub fn sample_count(mut self, busy: u32, probes: u32, stamp: u32) -> Outcome
+        ensures { λ r. ⌜ r ≡ callOn self (count stamp busy probes) ⌝ }
+    {
+        let number = self.refusal(stamp);
+        if number != 0 {
+            return self.refused(number);
+        }
+        if rules::is_bad_count(busy, probes) {
+            return self.refused(4);
+        }
+        let tuning = control::tuning_after(self.profile, self.tuning, rules::load(busy, probes));
+        let mut s = self.advance(stamp);
+        s.tuning = tuning;
+        Outcome {
+            state: s,
+            answer: Answer::Taken,
+        }
+    }
+
+    // A sample by words. A bad one goes by a count that is as bad: one busy of no probes.
+    pub fn sample_words(mut self, probes: u32, ws: &[u64], stamp: u32) -> Outcome
+        ensures { λ r. ⌜ r ≡ callOn self (words stamp probes (now (ws .entry))) ⌝ }
+    {
+        let sample = rules::read_sample(probes, ws);
+        match sample {
+            Sample::Busy(busy) => self.sample_count(busy, probes, stamp),
+            Sample::Bad => self.sample_count(1, 0, stamp),
+        }
+    }
+
+    // Once the expired are gone: 8 where five of a priority wait in the old way, 11 where too many were
+    // accepted, or 0.
+    fn room_refusal(self, priority: u32) -> u32
+        requires { ⌜ Given self ⌝ }
+        ensures { λ r. ⌜ r ≡ firstOf (roomChecks (self .oldway) (countOf priority (items (self .line)))
+            (self .counts .accepted)) ⌝ }
+    {
+        if refuses_full(self.oldway, self.line, priority) {
+            return 8;
+        }
+        if rules::MOST_OFFERS <= self.counts.accepted {
+            return 11;
+        }
+        0
+    }
+
+    // A packet joins the line. Where five of its priority wait, the first of those leaves for it.
+    fn join(mut self, p: Packet) -> State
+        requires { ⌜ Given self ⌝ }
+        requires { ⌜ p .priority ≤ lastPriority ⌝ }
+        ensures { λ r. ⌜ r ≡ stateOf (joined (roomMade (viewOf self) (p .priority)) p) ⌝ }
+    {
+        let mut line = self.line;
+        let mut counts = self.counts;
+        counts.accepted += 1;
+        if line::MOST_OF_A_PRIORITY <= line::count_of(line, p.priority) {
+            line = line::remove(line, p.priority);
+            counts.displaced += 1;
+        }
+        self.line = line::push(line, p);
+        self.counts = counts;
+        self
+    }
+
+    // A packet offered.
+    pub fn offer(mut self, o: Offer, stamp: u32) -> Outcome
+        ensures { λ r. ⌜ r ≡ callOn self (offer stamp o) ⌝ }
+    {
+        let number = self.refusal(stamp);
+        if number != 0 {
+            return self.refused(number);
+        }
+        let own = decide::offer_refusal(self.profile, o);
+        if own != 0 {
+            return self.refused(own);
+        }
+        let s = self.refresh(stamp);
+        let room = s.room_refusal(o.priority);
+        if room != 0 {
+            return self.refused(room);
+        }
+        let p = decide::packet_of(o, s.clock.time);
+        Outcome {
+            state: s.join(p),
+            answer: Answer::Taken,
+        }
+    }
+
+    // The µs until a packet may go: what is left of the wait, or until the air allows it.
+    fn left_for(self, p: Packet) -> u64
+        requires { ⌜ Given self ⌝ }
+        ensures { λ r. ⌜ r ≡ max (waitLeft (viewOf self)) (airLeft (viewOf self) p) ⌝ }
+    {
+        let last = self.last;
+        let now = self.clock.time;
+        let closed = control::closed_after(self.profile, self.tuning, last.ontime);
+        let left = decide::left_of(closed, last, now);
+        let late = second::air_left(self.ledger, p.ontime, now);
+        decide::longer(left, late)
+    }
+
+    // A packet goes: it leaves the line and is noted as the last admission.
+    fn admit(mut self, p: Packet) -> State
+        requires { ⌜ Given self ⌝ }
+        requires { ⌜ self .ledger .len < forty ⌝ }
+        ensures { λ r. ⌜ r ≡ stateOf (admits (viewOf self) p (without (p .priority) (items (self .line)))) ⌝ }
+    {
+        let now = self.clock.time;
+        self.line = line::remove(self.line, p.priority);
+        self.ledger = second::note(self.ledger, now, p.ontime);
+        let last = Last {
+            at: now,
+            ontime: p.ontime,
+            admitted: 1,
+        };
+        let mut counts = self.counts;
+        counts.sent += 1;
+        self.last = last;
+        self.counts = counts;
+        self
+    }
+
+    // Whether a packet may go, and which.
+    pub fn poll(mut self, stamp: u32) -> Outcome
+        ensures { λ r. ⌜ r ≡ callOn self (poll stamp) ⌝ }
+    {
+        let number = self.refusal(stamp);
+        if number != 0 {
+            return self.refused(number);
+        }
+        let s = self.refresh(stamp);
+        if s.line.len == 0 {
+            return Outcome {
+                state: s,
+                answer: Answer::Idle,
+            };
+        }
+        let p = line::pick(s.line);
+        let left = s.left_for(p);
+        if left != 0 {
+            return Outcome {
+                state: s,
+                answer: Answer::Closed(left),
+            };
+        }
+        Outcome {
+            state: s.admit(p),
+            answer: Answer::Sent(p),
+        }
+    }
+}
+
+// A record of a burst done on a state: an offer, or refused with 10.
+fn offered(mut state: State, rec: Record) -> Outcome
+    ensures { λ r. ⌜ r ≡ offeredBy state rec ⌝ }
+{
+    if rec.kind != 2 {
+        return state.refused(10);
+    }
+    let o = Offer {
+        id: rec.id,
+        priority: rec.priority,
+        ontime: rec.ontime,
+        lifetime: rec.lifetime,
+    };
+    state.offer(o, rec.stamp)
+}
+
+// The offers of a slice of records, one after the other, with an answer byte for each.
+pub fn burst(mut state: State, records: &[u8], answers: &mut [u8]) -> BurstTurn
+    ensures number { λ r. ⌜ r .number ≡ burstNumber (length (now (records .entry)))
+        (length (now (answers .entry))) ⌝ }
+    ensures state { λ r. ⌜ r .state ≡ burstState state (now (records .entry)) (now (answers .entry)) ⌝ }
+    ensures answers { λ _. ⌜ now (answers .exit) ≡ burstAnswers state (now (records .entry))
+        (now (answers .entry)) ⌝ }
+{
+    let number = calllog::burst_refusal(records.len(), answers.len());
+    if number != 0 {
+        return BurstTurn { state, number };
+    }
+    let n = records.len() / calllog::RECORD_BYTES;
+    let mut i: usize = 0;
+    while i < n {
+        let rec = calllog::read_record(records, calllog::RECORD_BYTES * i);
+        let outcome = offered(state, rec);
+        let next = outcome.state;
+        let answer = outcome.answer;
+        state = next;
+        answers[i] = calllog::answer_byte(answer);
+        i += 1;
+    }
+    BurstTurn { state, number: 0 }
+}
+
+// A state with nothing waiting, nothing admitted and nothing counted.
+fn blank_state(live: u32, oldway: u32, clock: Clock, profile: u32, tuning: Tuning) -> State
+    ensures { λ r. ⌜ r ≡ stateOf (blank live oldway clock (controlOf profile tuning)) ⌝ }
+{
+    let line = line::empty();
+    let ledger = ledger::empty();
+    let last = Last {
+        at: 0,
+        ontime: 0,
+        admitted: 0,
+    };
+    let counts = Counts {
+        accepted: 0,
+        sent: 0,
+        expired: 0,
+        displaced: 0,
+    };
+    State {
+        line,
+        ledger,
+        clock,
+        last,
+        counts,
+        tuning,
+        profile,
+        oldway,
+        live,
+    }
+}
+
+// What a refused make gives: the all-zero, not live state.
+fn refused_make() -> Outcome
+    ensures { λ r. ⌜ r ≡ outcome (stateOf notLive) (Refused 1) ⌝ }
+{
+    let clock = Clock { time: 0, stamp: 0 };
+    let tuning = control::none();
+    let state = blank_state(0, 0, clock, 0, tuning);
+    Outcome {
+        state,
+        answer: Answer::Refused(1),
+    }
+}
+
+// A fresh state; the all-zero one with the refusal of a bad profile, or of a way that is neither 0 nor 1.
+pub fn make(profile: u32, oldway: u32, stamp: u32) -> Outcome
+    ensures exact { λ r. ⌜ r ≡ makeState (record { profile = profile; oldway = oldway; stamp = stamp }) ⌝ }
+    ensures same { λ r. ⌜ Agrees r (record { profile = profile; oldway = oldway; stamp = stamp }) ⌝ }
+{
+    if !rules::lies_within(rules::FIRST_PROFILE, rules::LAST_PROFILE, profile) {
+        return refused_make();
+    }
+    if 1 < oldway {
+        return refused_make();
+    }
+    let clock = Clock { time: 0, stamp };
+    let tuning = control::fresh();
+    let state = blank_state(1, oldway, clock, profile, tuning);
+    Outcome {
+        state,
+        answer: Answer::Ready,
+    }
+}
