@@ -31,7 +31,9 @@ add-counts c =
     let k = known _ (s .pre) in
     let l = same-line (s .args .self) (a .result) (s .args .stamp) (s .pre .0) (a .ensures) in
     let n = same-counts (s .args .self) (a .result) (s .args .stamp) (a .ensures) in
-    omega (arith, k .sum, k .most, ap (λ (x : Line). x .len) l, ap (λ (x : Counts). x .expired) n)
+    let gone = ap (λ (x : Counts). x .expired) n in
+    let sent = ap (λ (x : Counts). x .sent) n in
+    omega (arith, k .sum, k .most, ap (λ (x : Line). x .len) l, gone, sent)
 
 returns : tie.Need-returns
 returns c =
