@@ -2,7 +2,7 @@
 -- sample by words the one by its count; so the program answers a log of records as the gate answered the calls.
 use Prim.Native.Nat.{ℕ, _+_, _*_, _/_, _%_, _≤_, _<_}
 use mathlib.Core.Path.{_≡_, refl, sym, ap, ap₂, _∙_}
-use mathlib.Core.Bool.{Bool, true, false, cond}
+use mathlib.Core.Bool.{Bool, true, false, not, cond}
 use mathlib.Core.List.{List, [], _∷_, _++_, append-assoc}
 use native.Mathlib.Nat.{zero-add}
 use native.Mathlib.Omega.{arith}
@@ -117,6 +117,10 @@ field-read probes some =
     (λ e. rw e (sym (eqb-true probes usualProbes e)))
     (λ e. rw (e, ne-eqb probes 0 some) refl)
 
+-- the probe count of words that are not refused
+words-probes : (probes : ℕ) (ws : List ℕ) → not (goodWords probes ws) ≡ false → (1 ≤ probes) × (probes ≤ mostProbes)
+words-probes probes ws h = good-probes probes (good-words probes ws (not-false (goodWords probes ws) h) .count)
+
 -- then its numbers fit
 pub fits : (a : Asked) → Narrow a → NoneHolds (argumentChecks a) → Fitting (recordOf a)
 unfolding argumentChecks recordOf
@@ -130,7 +134,7 @@ fits (makes m) n h =
       stamp = omega arith;
     }
 fits (calls (words stamp probes ws)) n h =
-    let few : probes ≤ mostProbes = good-probes probes (good-words probes ws (not-false (goodWords probes ws) (h .0)) .count) .1 in
+    let few : probes ≤ mostProbes = words-probes probes ws (h .0) .1 in
     record {
       kind = omega arith;
       priority = omega arith;
@@ -173,8 +177,8 @@ asks : (a : Asked) → NoneHolds (argumentChecks a) → askedBy (recordOf a) ≡
 unfolding argumentChecks askedBy recordOf
 asks (makes m) h = refl
 asks (calls (words stamp probes ws)) h =
-    let good = good-probes probes (good-words probes ws (not-false (goodWords probes ws) (h .0)) .count) in
-    ap (λ (n : ℕ). calls (count stamp (busyOf ws probes) n)) (field-read probes (λ z. absurd (omega (arith, good .0))))
+    ap (λ (n : ℕ). calls (count stamp (busyOf ws probes) n))
+    (field-read probes (λ z. absurd (omega (arith, words-probes probes ws (h .0) .0))))
 asks (calls (count stamp busy probes)) h =
     ap (λ (n : ℕ). calls (count stamp busy n)) (field-read probes (eqb-false probes 0 (h .1 .1 .0)))
 asks (calls (offer stamp o)) h = refl

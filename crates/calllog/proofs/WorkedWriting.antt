@@ -172,8 +172,8 @@ no-way : writeNumber (full 16) 0 (askedBy (recordAt (0 ∷ 1 ∷ 0 ∷ 0 ∷ 2 �
 unfolding of-writes full probesIn askedBy recordAt fourAt twoAt
 no-way = refl
 
--- a sample's record with 0, 999, 1,000 and 20,000 as its lifetime: "a record that says 1,000 reads alike and is outside W-206's way
--- back" (W-208): it comes back as 0
+-- a sample's record with 0, 999, 1,000 and 20,000 as its lifetime: "a record that says 1,000 reads alike and is outside W-206's
+-- way back" (W-208): it comes back as 0
 sampled : (low high : ℕ) → List ℕ
 sampled low high = 1 ∷ 0 ∷ 0 ∷ 0 ∷ low ∷ high ∷ 0 ∷ 0 ∷ 7 ∷ replicate 7 0
 

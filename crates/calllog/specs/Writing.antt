@@ -82,8 +82,8 @@ tooWide bytes n = leb (256 ^ bytes) n
 abbrev pub makeWidths : (profile oldway : ℕ) → List Check
 makeWidths profile oldway = check 1 (tooWide 1 profile) ∷ check 1 (ltb 1 oldway) ∷ []
 
--- 4: a sample's busy count and probe count; the writer "refuses a probe count of 0 with 4" (W-208), which would
--- be read as 1,000
+-- 4: a sample's busy count and probe count; the writer "refuses a probe count of 0 with 4" (W-208), which
+-- would be read as 1,000
 abbrev pub countWidths : (busy probes : ℕ) → List Check
 countWidths busy probes =
     check 4 (tooWide 4 busy) ∷ check 4 (tooWide 4 probes) ∷ check 4 (eqb probes 0) ∷ []

@@ -111,7 +111,8 @@ unfolding of-states sent-at-0 fresh empty offers stateAfter
 noted-behind = (refl, refl, refl)
 
 dropped-at-a-second :
-    map (λ (c : Call). callOn sent-at-0 c .state .ledger .len) (count 1000006 5 1000 ∷ count 1000007 5 1000 ∷ count 1000007 1001 1000 ∷ [])
+    map (λ (c : Call). callOn sent-at-0 c .state .ledger .len)
+    (count 1000006 5 1000 ∷ count 1000007 5 1000 ∷ count 1000007 1001 1000 ∷ [])
     ≡ 1 ∷ 0 ∷ 1 ∷ []
 unfolding of-states sent-at-0 fresh empty offers stateAfter
 dropped-at-a-second = refl

@@ -2,7 +2,6 @@
 use denote.Ref.{now}
 use Prim.Native.Nat.{ℕ, _≤_, _*_, _/_, _%_, _^_}
 use mathlib.Core.Path.{_≡_, refl, ap, _∙_, sym}
-use mathlib.Core.Bool.{true}
 use native.Mathlib.Nat.{zero-div}
 use native.Mathlib.Omega.{arith}
 use borrow.Author.Needs.{needs}

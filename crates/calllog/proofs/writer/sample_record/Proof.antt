@@ -1,6 +1,6 @@
 -- The record is the definition's, with the field that stands for the probes.
 use Prim.Native.Nat.{ℕ}
-use mathlib.Core.Path.{_≡_, ap}
+use mathlib.Core.Path.{ap}
 use borrow.Author.Needs.{needs}
 use Rattle.calllog.specs.declared.Record.{Record}
 use Rattle.calllog.proofs.writer.sample_record.Statement.{statement}

@@ -45,7 +45,8 @@ returns c =
     let k = m .before .before in
     let r = k .before .before in
     let a = r .before .before .before .args in
-    let good = read-good (a .probes) (now (a .ws)) (k .sample .given .0 .0) (sym (r .read-sample .ensures) ∙ k .sample .given .1) in
+    let read = sym (r .read-sample .ensures) ∙ k .sample .given .1 in
+    let good = read-good (a .probes) (now (a .ws)) (k .sample .given .0 .0) read in
     judged (now (a .log)) (a .at) (calls (words (a .stamp) (a .probes) (now (a .ws))))
     0 (w .write-unless .result) _ _
     (simp (good .0))
