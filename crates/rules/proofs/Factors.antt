@@ -7,13 +7,18 @@ use native.Mathlib.Nat.{mul-le-mul-left, mul-le-mul-right, add-mul, mul-add, mul
 use native.Mathlib.Nat.{sub-add-cancel, div-mul-le-self}
 use native.Mathlib.Omega.{arith}
 use lib.Dec.{leb}
-use borrow.Author.Tests.{lt-leb}
+use borrow.Author.Tests.{le-leb, lt-leb}
 use Rattle.rules.specs.Profiles.{profile4}
 use Rattle.rules.specs.Duty.{held}
 use Rattle.rules.specs.Harmonised.{perMille, factorOf, harmonisedWait, NeverShorter, NeverShorterWhole}
 use Rattle.rules.proofs.Cases.{on-cond}
 use Rattle.rules.proofs.Ceiling.{quotient-lt}
 use Rattle.rules.proofs.Waits.{Within}
+
+-- in a calm channel the wait is the least
+pub waits-calm : (ontime load : ℕ) → perMille load ≤ profile4 .calm → harmonisedWait profile4 ontime load ≡ 25000
+unfolding harmonisedWait
+waits-calm ontime load h = rw (le-leb (perMille load) (profile4 .calm) h)
 
 pub within4 : (ontime load : ℕ) → Within (profile4 .limits) (harmonisedWait profile4 ontime load)
 unfolding harmonisedWait
