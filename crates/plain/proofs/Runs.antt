@@ -8,11 +8,11 @@ use Rattle.rules.proofs.Cases.{split, on-cond}
 use Rattle.model.specs.declared.Answer.{Answer}
 use Rattle.model.specs.declared.Answer.the-variants.{Ready}
 use Rattle.model.specs.Queues.{inQueues}
-use Rattle.model.specs.Calls.{Call, Making, isRefused}
+use Rattle.model.specs.Calls.{Call, poll, Making, isRefused}
 use Rattle.model.specs.State.{View, sound}
 use Rattle.model.specs.Effects.{Result}
 use Rattle.model.specs.Gate.{makeIn, make, call}
-use Rattle.model.specs.Journal.{opened, journalOf}
+use Rattle.model.specs.Journal.{Journal, opened, journalOf}
 use Rattle.model.specs.Claims.{Claims, viewAfter}
 use Rattle.model.proofs.Refusals.{refusals-change-nothing}
 use Rattle.model.proofs.Sound.{forty-are-enough}
@@ -26,6 +26,7 @@ use Rattle.line.proofs.Alike as alike
 use Rattle.line.proofs.Agree.{Parted, parts-alike, sound-tied, parts-sound, tied-parts, sound-lists-agree, made-alike}
 use Rattle.gate.specs.declared.State as gate-state
 use Rattle.gate.specs.Layout as gate
+use Rattle.gate.specs.Runs as gate-specs
 use Rattle.gate.proofs.Views as gate-views
 use Rattle.gate.proofs.Runs as gate-runs
 use Rattle.calllog.specs.declared.Record.{Record}
@@ -39,7 +40,7 @@ use Rattle.plain.specs.declared.Outcome.{Outcome}
 use Rattle.plain.specs.Layout.{viewOf, stateOf, soundState, callOn, makeState}
 use Rattle.plain.specs.Bursts.{offeredBy, offeredTo, answersTo, burstState, burstAnswers}
 use Rattle.plain.specs.Bursts.{moved, heardOf, movedAll, allHeard}
-use Rattle.plain.specs.Runs.{SameMoves, SoundStatesAgree, SameRun, Agrees}
+use Rattle.plain.specs.Runs.{SameMoves, SoundStatesAgree, PollsRight, journalHeard, SameRun, Agrees}
 use Rattle.plain.proofs.Views.{view-state, sound-parts}
 use Rattle.plain.proofs.Polling.{packets-of}
 
@@ -159,6 +160,18 @@ same-moves s t ms h =
       sound-state = r .1 .here;
     }
 
+-- a poll that is right there is right here
+same-polls : (profile : ℕ) (s : State) (t : gate-state.State) (j : Journal) → Same s t → gate-specs.PollsRight profile t j
+    → PollsRight profile s j
+same-polls profile s t j h g =
+    record {
+      floor = λ stamp a some q.
+          let r = same-call s t (poll stamp) h .0 in
+          let f = g .floor stamp (ap isRefused (sym r) ∙ a) some q in
+          (f .0, r ∙ f .1);
+      sent = λ stamp p a. g .sent stamp p (sym (same-call s t (poll stamp) h .0) ∙ a);
+    }
+
 pub sound-states-agree : SoundStatesAgree
 sound-states-agree s t ms a b e = same-moves s t ms (record { here = a; there = b; says = e })
 
@@ -192,10 +205,16 @@ same-run : (m : Making) → gate.makeState m .answer ≡ Ready → (ms : List Mo
 same-run m ready ms =
     let s = makeState m .state in
     let t = gate.makeState m .state in
-    let r = same-moves s t ms (made-same m (gate-ready m ready)) in
+    let begun = made-same m (gate-ready m ready) in
+    let r = same-moves s t ms begun in
     let there = runs-with-bursts m ms ready in
     record {
       same = r;
+      polls =
+          same-polls (m .profile) (movedAll s ms) (gate-bursts.movedAll t ms) (journalHeard m s ms) (same-all s t ms begun .1)
+          (subst⁻¹ (λ (l : List (Call × Answer)).
+          gate-specs.PollsRight (m .profile) (gate-bursts.movedAll t ms) (journalOf (opened (m .stamp)) l))
+          (r .answers) (there .polls));
       claims =
           subst⁻¹ (λ (v : View). Claims (m .profile) v (journalOf (opened (m .stamp)) (allHeard s ms))) (r .states)
           (subst⁻¹ (λ (l : List (Call × Answer)).
