@@ -1,6 +1,6 @@
 # Presscurlew: what can be run. Everything that is made lies below target/.
 
-ARCHIVES := $(patsubst %,target/staticlib/lib%.a,cstack floats host bursts loops plainhost)
+ARCHIVES := $(patsubst %,target/staticlib/lib%.a,cstack floats host bursts loops samples plainhost)
 PROVED := crates.txt $(shell find crates -name '*.rt' -o -name '*.antt')
 
 help:

@@ -7,12 +7,12 @@ use std::time::Instant;
 pub type Call = [u32; 6];
 
 /// One side of a comparison: it runs a row of calls from a state.
-pub type Run<S, T> = fn(S, &[Call]) -> T;
+pub type Run<S, T, C = Call> = fn(S, &[C]) -> T;
 
 /// Times one round, in ns a call, `N` bytes further down the stack. Copies of a state take longer where they straddle
 /// cache lines, so that a process whose stack lies well for one side would favour it.
 #[inline(never)]
-fn timed<const N: usize, S, T>(run: Run<S, T>, start: S, row: &[Call]) -> f64 {
+fn timed<const N: usize, S, T, C>(run: Run<S, T, C>, start: S, row: &[C]) -> f64 {
     let mut room = [0u8; N];
     black_box(&mut room);
     let began = Instant::now();
@@ -20,37 +20,37 @@ fn timed<const N: usize, S, T>(run: Run<S, T>, start: S, row: &[Call]) -> f64 {
     began.elapsed().as_nanos() as f64 / row.len() as f64
 }
 
-type Timed<S, T> = fn(Run<S, T>, S, &[Call]) -> f64;
+type Timed<S, T, C> = fn(Run<S, T, C>, S, &[C]) -> f64;
 
 pub const PLACES: usize = 16;
 
 /// Places over a page of the stack, four at each offset in a cache line that a stack can have.
-fn places<S, T>() -> [Timed<S, T>; PLACES] {
+fn places<S, T, C>() -> [Timed<S, T, C>; PLACES] {
     [
-        timed::<16, S, T>,
-        timed::<288, S, T>,
-        timed::<560, S, T>,
-        timed::<832, S, T>,
-        timed::<1104, S, T>,
-        timed::<1376, S, T>,
-        timed::<1648, S, T>,
-        timed::<1920, S, T>,
-        timed::<2192, S, T>,
-        timed::<2464, S, T>,
-        timed::<2736, S, T>,
-        timed::<3008, S, T>,
-        timed::<3280, S, T>,
-        timed::<3552, S, T>,
-        timed::<3824, S, T>,
-        timed::<4096, S, T>,
+        timed::<16, S, T, C>,
+        timed::<288, S, T, C>,
+        timed::<560, S, T, C>,
+        timed::<832, S, T, C>,
+        timed::<1104, S, T, C>,
+        timed::<1376, S, T, C>,
+        timed::<1648, S, T, C>,
+        timed::<1920, S, T, C>,
+        timed::<2192, S, T, C>,
+        timed::<2464, S, T, C>,
+        timed::<2736, S, T, C>,
+        timed::<3008, S, T, C>,
+        timed::<3280, S, T, C>,
+        timed::<3552, S, T, C>,
+        timed::<3824, S, T, C>,
+        timed::<4096, S, T, C>,
     ]
 }
 
 /// The times of each side in ns a call. Round by round the sides take turns in who goes first, and the places too.
-pub fn rounds<S: Copy, T, const N: usize>(
-    sides: [Run<S, T>; N],
+pub fn rounds<S: Copy, T, C, const N: usize>(
+    sides: [Run<S, T, C>; N],
     start: S,
-    row: &[Call],
+    row: &[C],
     rounds: usize,
 ) -> [Vec<f64>; N] {
     let mut times = sides.map(|_| Vec::new());

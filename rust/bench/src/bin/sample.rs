@@ -1,6 +1,8 @@
-//! Measures a sample by words, of as many probes as there may be, of 1,000 and of 64, beside plain Rust doing the same: the
-//! whole call with the state by value, the record of the call, and what the words cost, which is the call by words less
-//! the call by count. The sides take turns in one run; calls must end in the same state, and records must be the same.
+//! Measures a sample by words, of as many probes as there may be, of 1,000 and of 64, beside plain Rust doing the same: in
+//! a loop inside Rattle, by one C call after the other, the record of the call, and what the words cost, which is the call
+//! by words less the call by count. The state goes by value; plain Rust has it also in place with the same soundness test,
+//! compiled into its loop as the gate is into Rattle's. The sides take turns in one run; calls must end in the same state,
+//! and records must be the same.
 
 #[path = "../places.rs"]
 mod places;
@@ -8,7 +10,7 @@ mod places;
 #[allow(dead_code)]
 mod plain;
 
-use places::{median, rounds, Call, Run, PLACES};
+use places::{median, rounds, Run, PLACES};
 use plain::{busy_of, by_value, State};
 use presscurlew::sys;
 
@@ -17,11 +19,22 @@ const CALLS: usize = 1_000;
 const SAMPLES: usize = 64;
 const PROBES: [u32; 3] = [12_500, 1_000, 64];
 
-/// Samples to choose from, with the probes that each has and, for the calls by count, how many are busy.
+/// A call: which sample it makes, and its stamp.
+type Call = [u32; 2];
+
+/// Samples to choose from, their words one behind the other, with the probes that each has and, for the calls by count,
+/// how many are busy.
 struct Samples {
     probes: u32,
-    words: Vec<Vec<u64>>,
+    words: Vec<u64>,
     busy: Vec<u32>,
+}
+
+impl Samples {
+    fn words_of(&self, which: u32) -> &[u64] {
+        let size = self.probes.div_ceil(64) as usize;
+        &self.words[which as usize * size..][..size]
+    }
 }
 
 /// The state that a row starts from, as the archive has it and as plain Rust does. All rows are of one profile.
@@ -66,10 +79,38 @@ impl End {
     }
 }
 
+extern "C" {
+    fn presscurlew_run_words(
+        state: sys::State,
+        probes: u32,
+        words: *const u64,
+        words_len: usize,
+        row: *const u32,
+        row_len: usize,
+    ) -> sys::State;
+}
+
+fn inside_rattle(start: Start, row: &[Call]) -> End {
+    let samples = start.samples;
+    let (words, row) = (&samples.words, row.as_flattened());
+    // SAFETY: the archive reads as many words and numbers behind the pointers as the lengths say, and keeps none.
+    let state = unsafe {
+        presscurlew_run_words(
+            start.archive,
+            samples.probes,
+            words.as_ptr(),
+            words.len(),
+            row.as_ptr(),
+            row.len(),
+        )
+    };
+    End::of_archive(&state)
+}
+
 fn archive_by_words(start: Start, row: &[Call]) -> End {
     let (mut state, samples) = (start.archive, start.samples);
-    for &[which, .., stamp] in row {
-        let words = &samples.words[which as usize];
+    for &[which, stamp] in row {
+        let words = samples.words_of(which);
         state = sys::sample_words(state, samples.probes, words, stamp).state;
     }
     End::of_archive(&state)
@@ -77,16 +118,27 @@ fn archive_by_words(start: Start, row: &[Call]) -> End {
 
 fn plain_by_words(start: Start, row: &[Call]) -> End {
     let (mut state, samples) = (start.plain, start.samples);
-    for &[which, .., stamp] in row {
-        let words = &samples.words[which as usize];
+    for &[which, stamp] in row {
+        let words = samples.words_of(which);
         state = by_value::sample_words(state, samples.probes, words, stamp).0;
+    }
+    End::of_plain(&state)
+}
+
+/// The same test and the same call, compiled into the loop as the gate's are into Rattle's: no state is copied.
+fn plain_inside(start: Start, row: &[Call]) -> End {
+    let (mut state, samples) = (start.plain, start.samples);
+    for &[which, stamp] in row {
+        if state.is_sound() {
+            state.sample_words(samples.probes, samples.words_of(which), stamp);
+        }
     }
     End::of_plain(&state)
 }
 
 fn archive_by_count(start: Start, row: &[Call]) -> End {
     let (mut state, samples) = (start.archive, start.samples);
-    for &[which, .., stamp] in row {
+    for &[which, stamp] in row {
         let busy = samples.busy[which as usize];
         state = sys::presscurlew_sample_count(state, busy, samples.probes, stamp).state;
     }
@@ -95,7 +147,7 @@ fn archive_by_count(start: Start, row: &[Call]) -> End {
 
 fn plain_by_count(start: Start, row: &[Call]) -> End {
     let (mut state, samples) = (start.plain, start.samples);
-    for &[which, .., stamp] in row {
+    for &[which, stamp] in row {
         let busy = samples.busy[which as usize];
         state = by_value::sample(state, busy, samples.probes, stamp).0;
     }
@@ -104,8 +156,8 @@ fn plain_by_count(start: Start, row: &[Call]) -> End {
 
 fn archive_record(start: Start, row: &[Call]) -> End {
     let (mut record, samples) = ([0; sys::RECORD_BYTES], start.samples);
-    for &[which, .., stamp] in row {
-        let words = &samples.words[which as usize];
+    for &[which, stamp] in row {
+        let words = samples.words_of(which);
         sys::write_sample_words(samples.probes, words, stamp, &mut record, 0);
     }
     End::of_record(record)
@@ -113,8 +165,8 @@ fn archive_record(start: Start, row: &[Call]) -> End {
 
 fn plain_record(start: Start, row: &[Call]) -> End {
     let (mut record, samples) = ([0; sys::RECORD_BYTES], start.samples);
-    for &[which, .., stamp] in row {
-        let words = &samples.words[which as usize];
+    for &[which, stamp] in row {
+        let words = samples.words_of(which);
         write_plain(samples.probes, words, stamp, &mut record, 0);
     }
     End::of_record(record)
@@ -149,12 +201,12 @@ fn samples(probes: u32) -> &'static Samples {
         }
         words
     };
-    let words: Vec<Vec<u64>> = (0..SAMPLES).map(sample).collect();
-    let busy = words.iter().map(|words| busy_of(probes, words));
+    let each: Vec<Vec<u64>> = (0..SAMPLES).map(sample).collect();
+    let busy = each.iter().map(|words| busy_of(probes, words));
     let busy = busy.map(|busy| busy.expect("a sample")).collect();
     Box::leak(Box::new(Samples {
         probes,
-        words,
+        words: each.concat(),
         busy,
     }))
 }
@@ -162,7 +214,9 @@ fn samples(probes: u32) -> &'static Samples {
 /// The µs from one sample to the next.
 const STEP: u32 = 100_000;
 
-const SIDES: [Run<Start, End>; 6] = [
+const SIDES: [Run<Start, End, Call>; 8] = [
+    inside_rattle,
+    plain_inside,
     archive_by_words,
     plain_by_words,
     archive_by_count,
@@ -180,33 +234,35 @@ fn start(profile: u32, samples: &'static Samples) -> Start {
 }
 
 fn row() -> Vec<Call> {
-    let calls = (0..CALLS as u32).map(|i| [i % SAMPLES as u32, 0, 0, 0, 0, (i + 1) * STEP]);
+    let calls = (0..CALLS as u32).map(|i| [i % SAMPLES as u32, (i + 1) * STEP]);
     calls.collect()
 }
 
 /// A comparison of speed means something only between runs that end alike.
 fn ends_alike(start: Start, row: &[Call]) {
     let ends = SIDES.map(|run| run(start, row));
-    let states = ends[..4].iter();
+    let states = ends[..6].iter();
     assert!(
         states.into_iter().all(|end| *end == ends[0]),
         "the states differ"
     );
-    assert_eq!(ends[4], ends[5], "the records differ");
+    assert_eq!(ends[6], ends[7], "the records differ");
 }
 
 fn measure(profile: u32, samples: &'static Samples) {
     let (start, row) = (start(profile, samples), row());
     ends_alike(start, &row);
-    let [words, plain, count, plain_count, record, plain_record] =
+    let [inside, plain_inside, words, plain, count, plain_count, record, plain_record] =
         rounds(SIDES, start, &row, ROUNDS).map(median);
     let line = |name: &str, ours: f64, theirs: f64| {
         let probes = samples.probes;
         println!(
-            "{name:<26}{probes:>7}{profile:>9}{ours:>10.1}{theirs:>12.1}{:>8.2}",
+            "{name:<32}{probes:>7}{profile:>9}{ours:>10.1}{theirs:>12.1}{:>8.2}",
             ours / theirs
         );
     };
+    line("sample by words, inside Rattle", inside, plain);
+    line("both inside a loop", inside, plain_inside);
     line("sample by words", words, plain);
     line("sample by count", count, plain_count);
     line("words less count", words - count, plain - plain_count);
@@ -214,8 +270,8 @@ fn measure(profile: u32, samples: &'static Samples) {
 }
 
 fn main() {
-    println!("ns a call across C, median of {ROUNDS} rounds of {CALLS} calls each, in turn");
-    println!("call                       probes  profile    Rattle  plain Rust   ratio");
+    println!("ns a call, across C but for those inside Rattle, median of {ROUNDS} rounds of {CALLS} calls each, in turn");
+    println!("call                             probes  profile    Rattle  plain Rust   ratio");
     for probes in PROBES {
         let samples = samples(probes);
         for profile in [1, 3] {
