@@ -1,5 +1,6 @@
 -- By what was found; the µs left are those of the wait, asked for where a packet was found.
-use mathlib.Core.Path.{_∙_}
+use Prim.Native.Nat.{max}
+use mathlib.Core.Path.{_≡_, _∙_}
 use borrow.Author.Needs.{needs}
 use Rattle.decide.specs.Plans.{pollPlan}
 use Rattle.gate.proofs.Planning.{last-ontime, last-before}
@@ -29,7 +30,7 @@ longer-requires : tie.Need-longer-requires
 longer-requires c κs = search needs
 
 plan-found-requires : tie.Need-plan-found-requires
-plan-found-requires c κs = c .before .before .before .before .before .before .before .pre .few-sent
+plan-found-requires c κs = search needs
 
 returns : tie.Need-returns
 unfolding pollPlan
@@ -40,8 +41,9 @@ returns-2 c =
     let m = c .before in
     let l = m .before in
     let f = l .before .before .before .before in
+    let waits : m .longer .result ≡ max (l .left-of .result) (f .before .before .args .late) = m .longer .ensures in
     c .plan-found .ensures
-    ∙ rw (f .found .given .1, ← (l .before .closed-after .ensures), ← (l .left-of .ensures), ← (m .longer .ensures))
+    ∙ rw (f .found .given .1, ← (l .before .closed-after .ensures), ← (l .left-of .ensures), ← waits)
 
 pub plan-poll-spec : {M : Type 1} → statement M
 plan-poll-spec =
