@@ -1,10 +1,13 @@
 /*
  * A host of the gate to start from: a trailer at roadworks that warns of the closed lane, tells its status and
- * sends the map of the site in pieces, over 3 s in which the channel gets crowded for a while.
+ * sends the map of the site in pieces, over 4 s in which the channel gets crowded for a while.
  *
  * The radio is played: its clock is `now`, which wraps on the way, and hear_channel makes up what it probes.
  * All else is what a host does: keep the state, sample, offer, poll, and wait as long as CLOSED says. What comes
  * together, warnings among it, is offered together, as a burst.
+ *
+ * And a host stays silent for a second after it starts. What this trailer sent before it was switched off, or crashed,
+ * a new gate can't know: two runs closer than that can put more on air together than the label says of each.
  *
  *   roadworks [LOG [ANSWERS]]
  *
@@ -18,7 +21,10 @@
 
 #include "presscurlew.h"
 
-static const uint32_t START = 4294000000, TICK_US = 10000, TICKS = 300;
+static const uint32_t START = 4294000000, TICK_US = 10000, TICKS = 400;
+
+/* So long it does not poll after each start. What is offered meanwhile waits, and goes after it. */
+static const uint32_t SILENCE_US = 1000000;
 
 /* The radio probes the channel each 8 us, and is asked each 100 ms. */
 enum { PROBES = 12500, WORDS = PRESSCURLEW_WORDS(PROBES) };
@@ -45,6 +51,7 @@ enum { BURST = 8 };
 typedef struct host {
     presscurlew_state state; /* handed to each call, and replaced by what the call hands back */
     uint32_t now;            /* the radio's clock */
+    uint32_t silent_until;   /* no poll before: a run before this one may have sent just now */
     uint32_t quiet_until;    /* no use to poll before: the gate said CLOSED */
     unsigned ready;          /* so many messages are to be offered next: */
     uint8_t records[BURST][PRESSCURLEW_RECORD_BYTES];
@@ -190,17 +197,17 @@ static int has_come(const host *h, uint32_t moment) { return h->now - moment < U
 
 static void tick(host *h, unsigned t) {
     if (t % 10 == 0)
-        sample(h, t < 50 ? 2500 : t < 150 ? 8750 : 1250);
+        sample(h, t < 150 ? 2500 : t < 250 ? 8750 : 1250);
     if (t % 50 == 2)
         prepare(h, WARNING);
     if (t % 20 == 1)
         prepare(h, STATUS);
-    if (t == 55)
+    if (t == 155)
         for (int piece = 0; piece < 6; piece++)
             prepare(h, MAP);
     if (h->ready > 0)
         offer_burst(h);
-    if (has_come(h, h->quiet_until))
+    if (has_come(h, h->silent_until) && has_come(h, h->quiet_until))
         poll(h);
     h->now += TICK_US;
 }
@@ -251,7 +258,7 @@ static int make(host *h) {
 }
 
 int main(int argc, char **argv) {
-    host h = {.now = START, .quiet_until = START};
+    host h = {.now = START, .silent_until = START + SILENCE_US, .quiet_until = START};
 
     h.log = open_file(argc > 1 ? argv[1] : NULL);
     h.answers = open_file(argc > 2 ? argv[2] : NULL);

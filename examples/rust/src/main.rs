@@ -1,11 +1,14 @@
 //! A host of the gate to start from: a trailer at roadworks that warns of the closed lane, tells its status and
-//! sends the map of the site in pieces, over 3 s in which the channel gets crowded for a while.
+//! sends the map of the site in pieces, over 4 s in which the channel gets crowded for a while.
 //!
 //! `examples/c/roadworks.c` is the same host in C, and both must write the same.
 //!
 //! The radio is played: its clock is `now`, which wraps on the way, and `hear_channel` makes up what it probes.
 //! All else is what a host does: sample, offer, poll, and wait as long as `Closed` says. What comes together, warnings
 //! among it, is offered together, as a burst.
+//!
+//! And a host stays silent for a second after it starts. What this trailer sent before it was switched off, or crashed,
+//! a new gate can't know: two runs closer than that can put more on air together than the label says of each.
 //!
 //! ```text
 //! roadworks [LOG [ANSWERS]]
@@ -24,7 +27,10 @@ use presscurlew::{Answer, Counts, Offer, Packet, Recorder, WhenFull};
 
 const START: u32 = 4_294_000_000;
 const TICK_US: u32 = 10_000;
-const TICKS: u32 = 300;
+const TICKS: u32 = 400;
+
+/// So long it does not poll after each start. What is offered meanwhile waits, and goes after it.
+const SILENCE_US: u32 = 1_000_000;
 
 /// The radio probes the channel each 8 µs, and is asked each 100 ms.
 const PROBES: usize = 12_500;
@@ -81,6 +87,8 @@ struct Host {
     answers: Sink,
     /// The radio's clock.
     now: u32,
+    /// No poll before: a run before this one may have sent just now.
+    silent_until: u32,
     /// No use to poll before: the gate said CLOSED.
     quiet_until: u32,
     /// The messages to offer next.
@@ -110,6 +118,7 @@ impl Host {
             gate,
             answers,
             now: START,
+            silent_until: START.wrapping_add(SILENCE_US),
             quiet_until: START,
             ready: Vec::new(),
             offered: 0,
@@ -208,8 +217,8 @@ impl Host {
     fn tick(&mut self, t: u32) -> Result<(), Fault> {
         if t % 10 == 0 {
             self.sample(match t {
-                0..50 => 2_500,
-                50..150 => 8_750,
+                0..150 => 2_500,
+                150..250 => 8_750,
                 _ => 1_250,
             })?;
         }
@@ -219,13 +228,13 @@ impl Host {
         if t % 20 == 1 {
             self.prepare(STATUS);
         }
-        if t == 55 {
+        if t == 155 {
             (0..6).for_each(|_| self.prepare(MAP));
         }
         if !self.ready.is_empty() {
             self.offer_burst()?;
         }
-        if self.has_come(self.quiet_until) {
+        if self.has_come(self.silent_until) && self.has_come(self.quiet_until) {
             self.poll()?;
         }
         self.now = self.now.wrapping_add(TICK_US);
