@@ -1,6 +1,7 @@
 //! The command line.
 
 use crate::fault::Fault;
+use crate::label::{Asked, LabelWish};
 use crate::plain::{time_of, WriteWish};
 use crate::plot::PlotWish;
 use crate::show::ShowWish;
@@ -13,6 +14,7 @@ curlew: make, read, check and draw call logs of the Presscurlew gate
   curlew show LOG [ANSWERS]                  a table: call, answer, counts, what waits, air, the wait
   curlew check LOG ANSWERS                   were ceiling and floor kept, and do the counts add up
   curlew plot LOG [ANSWERS] -o OUT.svg       a picture of a run
+  curlew label --profile P --poll T          how long a warning may wait, how many trailers a site needs
   curlew --help | --version                  'curlew COMMAND --help' says more on one command
 
 LOG is a call log: records of 16 bytes. ANSWERS is what the program wrote for it:
@@ -116,6 +118,21 @@ twice, so they can't be -.
   --title T    a title of your own
 ";
 
+const LABEL_HELP: &str = "\
+curlew label --profile P --poll T [--before K] [--messages N]: what the label promises of a trailer
+curlew label --page LABEL.md -o OUT.html: the label as a page to print
+
+The first answers the hire desk: how long may a warning wait, how many messages a minute does one
+trailer send at least, and how many trailers are enough for so many. Each figure comes with what
+must be so for it. docs/LABEL.md has the formulas, and the theorem that proves each.
+
+  --profile P     1 to 4, as the trailer's gate is made
+  --poll T        the longest time between two polls of its host, as 50ms
+  --before K      so many of priority 0 wait before the warning: 0 to 4 (0)
+  --messages N    so many messages a minute are to go
+  --page FILE     the label's text; what it marks for the customer is the first sheet of the page
+";
+
 /// What was asked for.
 pub enum Command {
     /// A text to say.
@@ -128,6 +145,8 @@ pub enum Command {
     Check(CheckWish),
     /// `curlew plot`.
     Plot(PlotWish),
+    /// `curlew label`.
+    Label(LabelWish),
 }
 
 /// What `curlew check` was asked for.
@@ -165,6 +184,7 @@ pub fn parse(words: &[String]) -> Result<Command, Fault> {
         "show" => SHOW_HELP,
         "check" => CHECK_HELP,
         "plot" => PLOT_HELP,
+        "label" => LABEL_HELP,
         other => return Err(usage(&format!("there is no command '{other}'"))),
     };
     if rest.iter().any(|word| word == "--help" || word == "-h") {
@@ -178,6 +198,18 @@ pub fn parse(words: &[String]) -> Result<Command, Fault> {
             &["--plain", "--brief"],
         )?),
         "check" => check(Given::of(rest, &[], &[])?),
+        "label" => label(Given::of(
+            rest,
+            &[
+                "--profile",
+                "--poll",
+                "--before",
+                "--messages",
+                "--page",
+                "-o",
+            ],
+            &[],
+        )?),
         _ => plot(Given::of(
             rest,
             &["-o", "--run", "--title", "--from", "--to"],
@@ -248,6 +280,28 @@ fn plot(mut given: Given) -> Result<Command, Fault> {
     }))
 }
 
+fn label(mut given: Given) -> Result<Command, Fault> {
+    given.at_most(0)?;
+    if let Some(input) = given.take("--page") {
+        let Some(output) = given.take("-o") else {
+            return Err(usage("-o and the name of the page are missing"));
+        };
+        given.nothing_else()?;
+        return Ok(Command::Label(LabelWish::Page { input, output }));
+    }
+    let asked = Asked {
+        profile: given.needed("--profile")?,
+        poll: match given.time("--poll")? {
+            Some(poll) => poll,
+            None => return Err(usage("--poll is missing")),
+        },
+        before: given.whole("--before")?.unwrap_or(0),
+        messages: given.number("--messages")?,
+    };
+    given.nothing_else()?;
+    Ok(Command::Label(LabelWish::Figures(asked)))
+}
+
 /// The words after the command, sorted.
 #[derive(Debug)]
 struct Given {
@@ -299,6 +353,35 @@ impl Given {
     fn take(&mut self, option: &str) -> Option<String> {
         let at = self.values.iter().position(|(name, _)| name == option)?;
         Some(self.values.remove(at).1)
+    }
+
+    /// What is left over does not go with the rest.
+    fn nothing_else(&self) -> Result<(), Fault> {
+        match self.values.first() {
+            Some((name, _)) => Err(usage(&format!("{name} does not go with the other options"))),
+            None => Ok(()),
+        }
+    }
+
+    /// A number from 0 on.
+    fn whole(&mut self, option: &str) -> Result<Option<u64>, Fault> {
+        let Some(value) = self.take(option) else {
+            return Ok(None);
+        };
+        match value.parse() {
+            Ok(number) => Ok(Some(number)),
+            Err(_) => Err(usage(&format!(
+                "{option} needs a number from 0 on, not '{value}'"
+            ))),
+        }
+    }
+
+    /// A number that must be there. One that is too great is as good as any that is not known.
+    fn needed(&mut self, option: &str) -> Result<u32, Fault> {
+        match self.whole(option)? {
+            Some(number) => Ok(u32::try_from(number).unwrap_or(u32::MAX)),
+            None => Err(usage(&format!("{option} is missing"))),
+        }
     }
 
     /// A number of 1 or more.

@@ -6,7 +6,8 @@
 //! - [`stream`]: records and answers, read one at a time
 //! - [`follow`]: a log followed run by run, with the book of each run
 //! - [`watch`]: how near a run came to what is guaranteed
-//! - [`show`], [`check`], [`plot`]: the other three commands
+//! - [`show`], [`check`], [`plot`]: what reads a log
+//! - [`label`]: the label's figures for a site, and its [`page`] to print
 //!
 //! A log is read one record at a time, so that its length does not matter.
 
@@ -16,6 +17,8 @@ mod args;
 mod check;
 mod fault;
 mod follow;
+mod label;
+mod page;
 mod plain;
 mod plot;
 mod progress;
@@ -40,6 +43,7 @@ fn main() -> ExitCode {
         Command::Show(show) => show::show(&show),
         Command::Check(check) => check::check(&check),
         Command::Plot(plot) => plot::plot(&plot),
+        Command::Label(label) => label::label(&label),
     });
     match done {
         Ok(()) => ExitCode::SUCCESS,
