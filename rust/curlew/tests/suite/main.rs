@@ -3,6 +3,7 @@
 mod check;
 mod examples;
 mod help;
+mod label;
 mod plot;
 mod show;
 mod usage;
