@@ -2,14 +2,14 @@
 ghost use mathlib.Core.Path.{_≡_};
 ghost use mathlib.Core.Bool.{true, _&&_};
 ghost use mathlib.Core.List.{[]};
-ghost use Prim.Native.Nat.{_<_, _≤_};
+ghost use Prim.Native.Nat.{_≤_};
 ghost use lib.Dec.{leb};
-ghost use lib.ListN.{drop};
+ghost use lib.ListN.{length, drop};
 ghost use Rattle.packing.specs.Packing.{allAre};
-ghost use Rattle.model.specs.Packets.{withoutExpired, atBack, inOrder, chosen};
+ghost use Rattle.model.specs.Packets.{withoutExpired, inOrder};
 ghost use Rattle.queue.specs.Layout.{isZero};
-ghost use Rattle.line.specs.Line.{countOf, without, picked, allowedPacket};
-ghost use Rattle.line.specs.Layout.{places, items, packed, Packed, soundLine};
+ghost use Rattle.line.specs.Line.{countOf, goesBefore, goesNext, without, allowedPacket};
+ghost use Rattle.line.specs.Layout.{places, items, packed, Packed, pushed, soundLine};
 use model::Packet;
 
 // The first `len` places hold the waiting packets in order of arrival; the others are zero.
@@ -32,13 +32,22 @@ pub fn empty() -> Line
     Line { len: 0, packets }
 }
 
-// One more packet, the last to come.
-pub fn push(mut l: Line, p: Packet) -> Line
-    requires { ⌜ Packed l ⌝ }
-    requires { ⌜ l .len < places ⌝ }
-    ensures { λ r. ⌜ r ≡ packed (atBack p (items l)) ⌝ }
+// How many packets a line holds: never more than it has places, whatever its length says.
+fn held(l: Line) -> usize
+    ensures { λ r. ⌜ (r ≡ length (items l)) × (r ≤ places) ⌝ }
 {
     let n = l.len;
+    if PLACES < n { PLACES } else { n }
+}
+
+// One more packet, the last to come; a full line stays as it is.
+pub fn push(mut l: Line, p: Packet) -> Line
+    ensures { λ r. ⌜ r ≡ pushed p l ⌝ }
+{
+    let n = l.len;
+    if PLACES <= n {
+        return l;
+    }
     l.packets[n] = p;
     l.len = n + 1;
     l
@@ -46,10 +55,9 @@ pub fn push(mut l: Line, p: Packet) -> Line
 
 // How many of a priority wait.
 pub fn count_of(l: Line, priority: u32) -> usize
-    requires { ⌜ l .len ≤ places ⌝ }
     ensures { λ r. ⌜ r ≡ countOf priority (items l) ⌝ }
 {
-    let n = l.len;
+    let n = held(l);
     let mut count: usize = 0;
     let mut i: usize = 0;
     while i < n {
@@ -64,10 +72,9 @@ pub fn count_of(l: Line, priority: u32) -> usize
 
 // The line without its expired packets.
 pub fn expire(l: Line, now: u64) -> Line
-    requires { ⌜ l .len ≤ places ⌝ }
     ensures { λ r. ⌜ r ≡ packed (withoutExpired now (items l)) ⌝ }
 {
-    let n = l.len;
+    let n = held(l);
     let mut left = empty();
     let mut i: usize = 0;
     while i < n {
@@ -80,17 +87,26 @@ pub fn expire(l: Line, now: u64) -> Line
     left
 }
 
-// The packet with the lowest priority number, of those the first to come.
-pub fn pick(l: Line) -> Packet
-    requires { ⌜ (0 < l .len) × (l .len ≤ places) ⌝ }
-    ensures { λ r. ⌜ picked (items l) ≡ chosen r (without (r .priority) (items l)) ⌝ }
+// Whether a packet goes before one that came earlier.
+fn goes_before(q: Packet, p: Packet) -> bool
+    ensures { λ r. ⌜ r ≡ goesBefore q p ⌝ }
 {
-    let n = l.len;
+    q.priority < p.priority
+}
+
+// The packet with the lowest priority number, of those the first to come; of an empty line the blank packet.
+pub fn pick(l: Line) -> Packet
+    ensures { λ r. ⌜ r ≡ goesNext (items l) ⌝ }
+{
+    let n = held(l);
+    if n == 0 {
+        return queue::NO_PACKET;
+    }
     let mut found = l.packets[0];
     let mut i: usize = 1;
     while i < n {
         let p = l.packets[i];
-        if p.priority < found.priority {
+        if goes_before(p, found) {
             found = p;
         }
         i += 1;
@@ -100,10 +116,9 @@ pub fn pick(l: Line) -> Packet
 
 // The line without the first packet of a priority.
 pub fn remove(l: Line, priority: u32) -> Line
-    requires { ⌜ l .len ≤ places ⌝ }
     ensures { λ r. ⌜ r ≡ packed (without priority (items l)) ⌝ }
 {
-    let n = l.len;
+    let n = held(l);
     let mut left = empty();
     let mut gone = false;
     let mut i: usize = 0;

@@ -1,5 +1,5 @@
 -- The loop's invariant: the line that is built holds what expiry keeps of the packets passed.
-use Prim.Native.Nat.{_≤_, _-_}
+use Prim.Native.Nat.{ℕ, _≤_, _<_, _-_}
 use mathlib.Core.Path.{_≡_, _∙_, sym, ap}
 use mathlib.Core.Logic.{⊎-elim}
 use mathlib.Core.List.{List}
@@ -10,9 +10,8 @@ use Rattle.model.specs.Packets.{noPacket, withoutExpired, atBack}
 use Rattle.model.proofs.Orders.{expired-length}
 use Rattle.queue.proofs.Expiry.{kept-yes, kept-no}
 use Rattle.line.specs.declared.Line.{Line}
-use Rattle.line.specs.Layout.{items, packed}
-use Rattle.line.proofs.Known.{twenty}
-use Rattle.line.proofs.Packing.{packed-Packed, items-packed}
+use Rattle.line.specs.Layout.{places, items, packed}
+use Rattle.line.proofs.Packing.{packed-Packed, items-packed, held-items, held-within, pushes}
 use borrow.Author.Needs.{needs}
 use Rattle.line.proofs.expire.Statement.{statement}
 use Rattle.line.proofs.expire.Tie as tie
@@ -26,8 +25,11 @@ Inv-loop now l n left₀ i₀ left i = (i ≤ n) × (left ≡ packed (withoutExp
 abbrev μ-loop : tie.MeasureT-loop
 μ-loop now l n left₀ i₀ left i = n - i
 
-long : (c : tie.Start Inv-loop μ-loop) → c .args .t1 .len ≤ length (c .args .t1 .packets)
-long c = omega (arith, c .pre, twenty (c .args .t1) _ (c .good .0))
+long : (c : tie.After-held Inv-loop μ-loop) → c .held .result ≤ length (c .before .args .t1 .packets)
+long c = held-within (c .before .args .t1) _ (c .held .ensures .0)
+
+held-requires : tie.Need-held-requires Inv-loop μ-loop
+held-requires c κs = search needs
 
 empty-requires : tie.Need-empty-requires Inv-loop μ-loop
 empty-requires c κs = search needs
@@ -46,22 +48,13 @@ is-unexpired-requires : tie.Need-is-unexpired-requires Inv-loop μ-loop
 is-unexpired-requires c κs = search needs
 
 push-requires : tie.Need-push-requires Inv-loop μ-loop
+push-requires c κs = search needs
+
+-- the line so far has a free place for the packet that comes
+room : (l : List Packet) (left : Line) (now i : ℕ) → i < places → left ≡ packed (withoutExpired now (take i l)) → left .len < places
 unfolding packed
-push-requires c κs =
-    let a = c .before .before .before .before in
-    let s = a .before .before in
-    let e = a .loop .inv .1 in
-    let l = take (a .loop .i) (s .args .t1 .packets) in (
-      rw e (packed-Packed _),
-      omega (
-        arith,
-        s .pre,
-        ap (λ (x : Line). x .len) e,
-        expired-length (s .args .now) l,
-        length-take (a .loop .i)
-            (s .args .t1 .packets),
-      ),
-    )
+room l left now i h e =
+    omega (arith, ap (λ (x : Line). x .len) e, expired-length now (take i l), length-take i l)
 
 add-i : tie.Need-add-i Inv-loop μ-loop
 add-i c = search needs
@@ -73,26 +66,32 @@ loop-again : tie.Need-loop-again Inv-loop μ-loop
 loop-again c =
     let a = c .before .before .before .before in
     let s = a .before .before in
-    let l = s .args .t1 .packets in
+    let now = s .before .args .now in
+    let l = s .before .args .t1 .packets in
     let i = a .loop .i in
     let n = long s in
+    let h = room l (a .loop .left) now i (omega (arith, s .held .ensures .1)) (a .loop .inv .1) in
     let e = sym (c .before .is-unexpired .ensures) in
     let p = getD l i noPacket in
     ⊎-elim
     (λ w. (
       omega arith,
-      w .2 ∙ w .1 .ensures ∙ ap (λ (x : Line). packed (atBack p (items x))) (a .loop .inv .1)
-          ∙ ap (λ (x : List Packet). packed (atBack p x)) (items-packed (withoutExpired (s .args .now) (take i l)))
-          ∙ ap packed (sym (kept-yes (s .args .now) l i (omega arith) (e ∙ w .0 .taken))),
+      w .2 ∙ w .1 .ensures ∙ pushes (a .loop .left) p (rw (a .loop .inv .1) (packed-Packed _)) h
+          ∙ ap (λ (x : Line). packed (atBack p (items x))) (a .loop .inv .1)
+          ∙ ap (λ (x : List Packet). packed (atBack p x)) (items-packed (withoutExpired now (take i l)))
+          ∙ ap packed (sym (kept-yes now l i (omega arith) (e ∙ w .0 .taken))),
     ))
-    (λ w. (omega arith, w .1 ∙ a .loop .inv .1 ∙ ap packed (sym (kept-no (s .args .now) l i (omega arith) (e ∙ w .0 .left)))))
+    (λ w. (omega arith, w .1 ∙ a .loop .inv .1 ∙ ap packed (sym (kept-no now l i (omega arith) (e ∙ w .0 .left)))))
     (c .if1 .came)
 
 returns : tie.Need-returns Inv-loop μ-loop
 returns c =
     let a = c .before in
-    let e : a .loop .i ≡ a .before .before .args .t1 .len = omega arith in
-    rw e at (a .loop .inv .1)
+    let s = a .before .before in
+    let e : a .loop .i ≡ s .held .result = omega arith in
+    (rw e at (a .loop .inv .1))
+    ∙ ap (λ (ps : List Packet). packed (withoutExpired (s .before .args .now) ps))
+    (held-items (s .before .args .t1) _ (s .held .ensures .0))
 
 pub expire-spec : {M : Type 1} → statement M
 expire-spec =
@@ -100,6 +99,7 @@ expire-spec =
     (tie.spec
     Inv-loop
     μ-loop
+    held-requires
     empty-requires
     loop-holds
     mul-p
