@@ -16,10 +16,7 @@ advance-requires : tie.Need-advance-requires
 advance-requires c κs = search needs
 
 expire-requires : tie.Need-expire-requires
-expire-requires c κs =
-    let s = c .before .before in
-    let l = same-line (s .args .self) (c .before .advance .result) (s .args .stamp) (s .pre .0) (c .before .advance .ensures) in
-    omega (arith, known _ (s .pre) .short, ap (λ (x : Line). x .len) l)
+expire-requires c κs = search needs
 
 sub-gone : tie.Need-sub-gone
 sub-gone c = shorter _ _ _ (c .before .before .expire .ensures)

@@ -1,8 +1,8 @@
 -- The first free place of either array gets the admission.
 use Rattle.plain.proofs.Ledgers.{notes}
 use borrow.Author.Needs.{needs}
-use Rattle.plain.proofs.second.note.Statement.{statement}
-use Rattle.plain.proofs.second.note.Tie as tie
+use Rattle.plain.proofs.note.Statement.{statement}
+use Rattle.plain.proofs.note.Tie as tie
 
 mul-l : tie.Need-mul-l
 mul-l c = search needs

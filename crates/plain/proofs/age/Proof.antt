@@ -4,8 +4,8 @@ use native.Mathlib.Omega.{arith}
 use Rattle.ledger.proofs.Known.{forty}
 use Rattle.plain.proofs.Ledgers.{few, old-most, ages}
 use borrow.Author.Needs.{needs}
-use Rattle.plain.proofs.second.age.Statement.{statement}
-use Rattle.plain.proofs.second.age.Tie as tie
+use Rattle.plain.proofs.age.Statement.{statement}
+use Rattle.plain.proofs.age.Tie as tie
 
 count-aged-requires : tie.Need-count-aged-requires
 count-aged-requires c κs =
