@@ -8,7 +8,7 @@ use native.Mathlib.Omega.{arith}
 use lib.Dec.{leb}
 use lib.ListN.{length, take, drop, length-take, length-append}
 use lib.Seq.{length-take-le}
-use borrow.Author.Tests.{leb-true, le-leb, lt-ltb}
+use borrow.Author.Tests.{leb-true, le-leb, lt-ltb, le-ltb}
 use Rattle.rules.proofs.Cases.{both}
 use Rattle.packing.specs.Packing.{allAre, padded}
 use Rattle.packing.proofs.Packing.{list-filled, set-filled, padded-filled, filled-padded}
@@ -56,6 +56,11 @@ packed-pushed ps p h =
 pub pushes : (l : Line) (p : Packet) → Packed l → l .len < places → pushed p l ≡ packed (atBack p (items l))
 pushes l p h k =
     ap (pushed p) h ∙ packed-pushed (items l) p (rw (packed-length l h) at k)
+
+-- a full line stays as it is
+pub full-stays : (l : Line) (p : Packet) → places ≤ l .len → pushed p l ≡ l
+unfolding pushed
+full-stays l p h = rw (le-ltb (l .len) places h)
 
 -- a tidy line is packed, and a packed one as tidy as its list is short
 pub tidies : (l : Line) → l .len ≤ places → allAre isZero (drop (l .len) (l .packets)) ≡ true → tidy l ≡ true

@@ -1,13 +1,14 @@
 -- The first free place gets the packet, where there is one.
 use borrow.Author.Needs.{needs}
-use borrow.Author.Tests.{lt-ltb, le-ltb}
+use borrow.Author.Tests.{lt-ltb}
+use mathlib.Core.Path.{sym}
 use Rattle.line.specs.Layout.{pushed}
+use Rattle.line.proofs.Packing.{full-stays}
 use Rattle.line.proofs.push.Statement.{statement}
 use Rattle.line.proofs.push.Tie as tie
 
 returns : tie.Need-returns
-unfolding pushed
-returns c = rw (le-ltb _ _ (c .if1 .taken))
+returns c = sym (full-stays _ _ (c .if1 .taken))
 
 mul-p : tie.Need-mul-p
 mul-p c = search needs

@@ -1,14 +1,13 @@
 -- The loop's invariant: what is kept so far, and what is to come of the packets that are left.
 use Prim.Native.Nat.{_-_, _≤_, _<_}
-use mathlib.Core.Path.{_≡_, _∙_, sym, ap, refl}
-use mathlib.Core.List.{List, _++_}
+use mathlib.Core.Path.{_∙_, ap}
+use mathlib.Core.List.{List}
 use mathlib.Core.Logic.{⊎-elim}
-use lib.ListN.{length, take, drop, getD}
+use lib.ListN.{length}
 use native.Mathlib.Omega.{arith}
 use Rattle.model.specs.declared.Packet.{Packet}
-use Rattle.model.specs.Packets.{noPacket}
 use Rattle.line.specs.Line.{without}
-use Rattle.line.specs.Layout.{places, items, packed, Packed}
+use Rattle.line.specs.Layout.{packed}
 use Rattle.line.proofs.Packing.{held-items, held-within}
 use Rattle.line.proofs.Removing.{Removing, removing-none, turn-gone, turn-found, turn-passed, removed}
 use borrow.Author.Needs.{needs}

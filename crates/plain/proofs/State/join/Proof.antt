@@ -1,6 +1,6 @@
 -- Where five of its priority wait the first of those leaves; then the packet is at the back.
 use Prim.Native.Nat.{_≤_, _<_}
-use mathlib.Core.Path.{_≡_, sym, _∙_, ap}
+use mathlib.Core.Path.{_∙_}
 use mathlib.Core.Logic.{⊎-elim}
 use native.Mathlib.Omega.{arith}
 use Rattle.line.specs.Line.{countOf}

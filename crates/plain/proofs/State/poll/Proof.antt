@@ -1,10 +1,9 @@
 -- Refused; or nothing waits, or the packet picked waits or goes.
-use mathlib.Core.Path.{_≡_, sym, _∙_}
-use native.Mathlib.Omega.{arith}
+use mathlib.Core.Path.{sym, _∙_}
 use Rattle.model.specs.Calls.{poll}
 use Rattle.model.specs.Effects.{refreshed, effect}
 use Rattle.plain.specs.Layout.{viewOf}
-use Rattle.plain.proofs.Views.{given-of, sound-parts, known}
+use Rattle.plain.proofs.Views.{given-of, sound-parts}
 use Rattle.plain.proofs.Polling.{picks-at, left-at, idles, closes, sends, room-left}
 use Rattle.plain.proofs.Entry.{entered, refreshed-given, entry-refused, accepted, none-own}
 use borrow.Author.Needs.{needs}

@@ -1,10 +1,9 @@
 -- What is left of the line is what expiry keeps of it, and the rest is counted.
-use mathlib.Core.Path.{_≡_, sym, _∙_, ap}
+use mathlib.Core.Path.{ap}
 use native.Mathlib.Omega.{arith}
 use Rattle.line.specs.declared.Line.{Line}
 use Rattle.model.specs.declared.Counts.{Counts}
 use Rattle.model.specs.Effects.{moved}
-use Rattle.plain.specs.declared.State.{State}
 use Rattle.plain.specs.Layout.{viewOf}
 use Rattle.plain.proofs.Views.{known}
 use Rattle.plain.proofs.Doing.{same-line, same-counts, shorter, refreshes}
