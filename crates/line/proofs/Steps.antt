@@ -7,6 +7,7 @@ use mathlib.Core.List.{List, [], _∷_, _++_, append-assoc, append-nil}
 use native.Mathlib.Omega.{arith}
 use lib.ListN.{length, take, drop, getD}
 use borrow.Author.Tests.{eq-eqb, ne-eqb}
+use Rattle.rules.proofs.Cases.{split}
 use Rattle.model.specs.declared.Packet.{Packet}
 use Rattle.model.specs.Packets.{noPacket, chosen}
 use Rattle.queue.proofs.Walk.{next, done}
@@ -29,15 +30,12 @@ module _ (ps : List Packet) (n i : ℕ) (k : n ≤ length ps) where
   counted-all priority count h = rw (done ps n i h k) (omega arith)
 
   -- picking
-  pub better : (p : Packet) → i < n → goesBefore (getD ps i noPacket) p ≡ true
-      → best p (drop i (take n ps)) ≡ best (getD ps i noPacket) (drop (i + 1) (take n ps))
+  pub better : (p q : Packet) → i < n → q ≡ cond (goesBefore (getD ps i noPacket) p) (getD ps i noPacket) p
+      → best p (drop i (take n ps)) ≡ best q (drop (i + 1) (take n ps))
   unfolding best
-  better p h e = rw (next ps n i h k, e) refl
-
-  pub no-better : (p : Packet) → i < n → goesBefore (getD ps i noPacket) p ≡ false
-      → best p (drop i (take n ps)) ≡ best p (drop (i + 1) (take n ps))
-  unfolding best
-  no-better p h e = rw (next ps n i h k, e) refl
+  better p q h e =
+      rw (next ps n i h k, e)
+      (split (goesBefore (getD ps i noPacket) p) (λ b. rw b) (λ b. rw b))
 
   pub best-all : (p : Packet) → n ≤ i → best p (drop i (take n ps)) ≡ p
   unfolding best

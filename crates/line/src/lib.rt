@@ -1,12 +1,12 @@
 // One list of up to 20 packets in order of arrival: push, count, expire, pick, remove, sound.
 ghost use mathlib.Core.Path.{_≡_};
-ghost use mathlib.Core.Bool.{true, _&&_};
+ghost use mathlib.Core.Bool.{true, cond, _&&_};
 ghost use mathlib.Core.List.{[]};
 ghost use Prim.Native.Nat.{_≤_};
 ghost use lib.Dec.{leb};
 ghost use lib.ListN.{length, drop};
 ghost use Rattle.packing.specs.Packing.{allAre};
-ghost use Rattle.model.specs.Packets.{withoutExpired, inOrder};
+ghost use Rattle.model.specs.Packets.{unexpired, withoutExpired, inOrder};
 ghost use Rattle.queue.specs.Layout.{isZero};
 ghost use Rattle.line.specs.Line.{countOf, goesBefore, goesNext, without, allowedPacket};
 ghost use Rattle.line.specs.Layout.{places, items, packed, Packed, pushed, soundLine};
@@ -70,6 +70,16 @@ pub fn count_of(l: Line, priority: u32) -> usize
     count
 }
 
+// The line with one more packet, unless that one is expired.
+fn keep(left: Line, p: Packet, now: u64) -> Line
+    ensures { λ r. ⌜ r ≡ cond (unexpired now p) (pushed p left) left ⌝ }
+{
+    if queue::is_unexpired(p, now) {
+        return push(left, p);
+    }
+    left
+}
+
 // The line without its expired packets.
 pub fn expire(l: Line, now: u64) -> Line
     ensures { λ r. ⌜ r ≡ packed (withoutExpired now (items l)) ⌝ }
@@ -79,19 +89,20 @@ pub fn expire(l: Line, now: u64) -> Line
     let mut i: usize = 0;
     while i < n {
         let p = l.packets[i];
-        if queue::is_unexpired(p, now) {
-            left = push(left, p);
-        }
+        left = keep(left, p, now);
         i += 1;
     }
     left
 }
 
-// Whether a packet goes before one that came earlier.
-fn goes_before(q: Packet, p: Packet) -> bool
-    ensures { λ r. ⌜ r ≡ goesBefore q p ⌝ }
+// Of two packets, of which p came first, the one that goes first.
+fn sooner(p: Packet, q: Packet) -> Packet
+    ensures { λ r. ⌜ r ≡ cond (goesBefore q p) q p ⌝ }
 {
-    q.priority < p.priority
+    if q.priority < p.priority {
+        return q;
+    }
+    p
 }
 
 // The packet with the lowest priority number, of those the first to come; of an empty line the blank packet.
@@ -106,9 +117,7 @@ pub fn pick(l: Line) -> Packet
     let mut i: usize = 1;
     while i < n {
         let p = l.packets[i];
-        if goes_before(p, found) {
-            found = p;
-        }
+        found = sooner(found, p);
         i += 1;
     }
     found

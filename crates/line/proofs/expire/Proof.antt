@@ -1,23 +1,18 @@
 -- The loop's invariant: the line that is built holds what expiry keeps of the packets passed.
-use Prim.Native.Nat.{ℕ, _≤_, _<_, _-_}
-use mathlib.Core.Path.{_≡_, _∙_, sym, ap}
-use mathlib.Core.Logic.{⊎-elim}
+use Prim.Native.Nat.{_≤_, _-_}
+use mathlib.Core.Path.{_≡_, _∙_, ap}
 use mathlib.Core.List.{List}
-use lib.ListN.{length, take, getD, length-take}
+use lib.ListN.{length, take}
 use native.Mathlib.Omega.{arith}
 use Rattle.model.specs.declared.Packet.{Packet}
-use Rattle.model.specs.Packets.{noPacket, withoutExpired, atBack}
-use Rattle.model.proofs.Orders.{expired-length}
-use Rattle.queue.proofs.Expiry.{kept-yes, kept-no}
-use Rattle.line.specs.declared.Line.{Line}
-use Rattle.line.specs.Layout.{places, items, packed}
-use Rattle.line.proofs.Packing.{packed-Packed, items-packed, held-items, held-within, pushes}
+use Rattle.model.specs.Packets.{withoutExpired}
+use Rattle.line.specs.Layout.{packed}
+use Rattle.line.proofs.Packing.{held-items, held-within}
+use Rattle.line.proofs.Expiring.{turn}
 use borrow.Author.Needs.{needs}
 use Rattle.line.proofs.expire.Statement.{statement}
 use Rattle.line.proofs.expire.Tie as tie
 use Rattle.line.proofs.empty.Reads as empty-reads
-use Rattle.line.proofs.push.Reads as push-reads
-use Rattle.queue.proofs.is_unexpired.Reads as is-unexpired-reads
 
 abbrev Inv-loop : tie.InvT-loop
 Inv-loop now l n left₀ i₀ left i = (i ≤ n) × (left ≡ packed (withoutExpired now (take i (l .packets))))
@@ -44,17 +39,8 @@ mul-p c = search needs
 element-copy-out-p : tie.Need-element-copy-out-p Inv-loop μ-loop
 element-copy-out-p c = search needs
 
-is-unexpired-requires : tie.Need-is-unexpired-requires Inv-loop μ-loop
-is-unexpired-requires c κs = search needs
-
-push-requires : tie.Need-push-requires Inv-loop μ-loop
-push-requires c κs = search needs
-
--- the line so far has a free place for the packet that comes
-room : (l : List Packet) (left : Line) (now i : ℕ) → i < places → left ≡ packed (withoutExpired now (take i l)) → left .len < places
-unfolding packed
-room l left now i h e =
-    omega (arith, ap (λ (x : Line). x .len) e, expired-length now (take i l), length-take i l)
+keep-requires : tie.Need-keep-requires Inv-loop μ-loop
+keep-requires c κs = search needs
 
 add-i : tie.Need-add-i Inv-loop μ-loop
 add-i c = search needs
@@ -64,25 +50,14 @@ loop-less c = search needs
 
 loop-again : tie.Need-loop-again Inv-loop μ-loop
 loop-again c =
-    let a = c .before .before .before .before in
+    let a = c .before .before .before in
     let s = a .before .before in
-    let now = s .before .args .now in
     let l = s .before .args .t1 .packets in
-    let i = a .loop .i in
-    let n = long s in
-    let h = room l (a .loop .left) now i (omega (arith, s .held .ensures .1)) (a .loop .inv .1) in
-    let e = sym (c .before .is-unexpired .ensures) in
-    let p = getD l i noPacket in
-    ⊎-elim
-    (λ w. (
+    let i = a .loop .i in (
       omega arith,
-      w .2 ∙ w .1 .ensures ∙ pushes (a .loop .left) p (rw (a .loop .inv .1) (packed-Packed _)) h
-          ∙ ap (λ (x : Line). packed (atBack p (items x))) (a .loop .inv .1)
-          ∙ ap (λ (x : List Packet). packed (atBack p x)) (items-packed (withoutExpired now (take i l)))
-          ∙ ap packed (sym (kept-yes now l i (omega arith) (e ∙ w .0 .taken))),
-    ))
-    (λ w. (omega arith, w .1 ∙ a .loop .inv .1 ∙ ap packed (sym (kept-no now l i (omega arith) (e ∙ w .0 .left)))))
-    (c .if1 .came)
+      turn l i (s .before .args .now) (omega (arith, long s)) (omega (arith, s .held .ensures .1)) (a .loop .left) _
+          (a .loop .inv .1) (c .keep .ensures),
+    )
 
 returns : tie.Need-returns Inv-loop μ-loop
 returns c =
@@ -104,8 +79,7 @@ expire-spec =
     loop-holds
     mul-p
     element-copy-out-p
-    is-unexpired-requires
-    push-requires
+    keep-requires
     add-i
     loop-less
     loop-again

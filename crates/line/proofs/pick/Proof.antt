@@ -1,14 +1,13 @@
 -- The loop's invariant: the answer is the best of what was found and of the packets that are left.
 use Prim.Native.Nat.{_-_, _≤_}
 use mathlib.Core.Path.{_≡_, _∙_, sym, ap, refl}
-use mathlib.Core.Logic.{⊎-elim}
 use lib.ListN.{length, take, drop, getD}
 use native.Mathlib.Omega.{arith}
 use Rattle.model.specs.Packets.{noPacket}
 use Rattle.line.specs.Line.{best, goesNext}
 use Rattle.line.specs.Layout.{items}
 use Rattle.line.proofs.Packing.{held-items, held-within}
-use Rattle.line.proofs.Steps.{better, no-better, best-all, next-best, next-blank}
+use Rattle.line.proofs.Steps.{better, best-all, next-best, next-blank}
 use borrow.Author.Needs.{needs}
 use Rattle.line.proofs.pick.Statement.{statement}
 use Rattle.line.proofs.pick.Tie as tie
@@ -44,8 +43,8 @@ mul-p c = search needs
 element-copy-out-p : tie.Need-element-copy-out-p Inv-loop μ-loop
 element-copy-out-p c = search needs
 
-goes-before-requires : tie.Need-goes-before-requires Inv-loop μ-loop
-goes-before-requires c κs = search needs
+sooner-requires : tie.Need-sooner-requires Inv-loop μ-loop
+sooner-requires c κs = search needs
 
 add-i : tie.Need-add-i Inv-loop μ-loop
 add-i c = search needs
@@ -55,23 +54,12 @@ loop-less c = search needs
 
 loop-again : tie.Need-loop-again Inv-loop μ-loop
 loop-again c =
-    let a = c .before .before .before .before in
+    let a = c .before .before .before in
     let s = a .before .before .before in
-    let ps = s .before .args .t1 .packets in
     let n = s .held .result in
-    let e = sym (c .before .goes-before .ensures) in
-    ⊎-elim
-    (λ w. (
-      omega arith,
-      rw (w .1)
-          (a .loop .inv .1 ∙ better ps n (a .loop .i) (long s) (a .loop .found) (omega arith) (e ∙ w .0 .taken)),
-    ))
-    (λ w. (
-      omega arith,
-      rw (w .1)
-          (a .loop .inv .1 ∙ no-better ps n (a .loop .i) (long s) (a .loop .found) (omega arith) (e ∙ w .0 .left)),
-    ))
-    (c .if2 .came)
+    let ps = s .before .args .t1 .packets in
+    let turn = better ps n (a .loop .i) (long s) (a .loop .found) _ (omega arith) (c .sooner .ensures) in
+    (omega arith, a .loop .inv .1 ∙ turn)
 
 returns-2 : tie.Need-returns-2 Inv-loop μ-loop
 returns-2 c =
@@ -94,7 +82,7 @@ pick-spec =
     loop-holds
     mul-p
     element-copy-out-p
-    goes-before-requires
+    sooner-requires
     add-i
     loop-less
     loop-again
