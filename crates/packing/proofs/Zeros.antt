@@ -1,4 +1,4 @@
--- The places past the admissions: their bits, all in one number, which is zero if each of them is.
+-- Numbers past some place: their bits, all in one number, which is zero if each of them is.
 use Prim.Native.Nat.{ℕ, suc, _+_, _≤_, _<_}
 use mathlib.Core.Path.{_≡_, refl, ap, _∙_}
 use mathlib.Core.Bool.{Bool, true, false, _&&_}
@@ -11,8 +11,7 @@ use lib.Dec.{eqb}
 use lib.Bits.{bitOr, or-zero-l, or-add-and, and-le-r}
 use borrow.Author.Tests.{ne-eqb, eqb-true, eqb-false}
 use Rattle.rules.proofs.Cases.{split}
-use Rattle.packing.specs.Packing.{allAre}
-use Rattle.ledger.specs.Layout.{isUnused}
+use Rattle.packing.specs.Packing.{allAre, isUnused}
 
 or-none : (a b : ℕ) → eqb (bitOr a b) 0 ≡ (eqb a 0 && eqb b 0)
 or-none a b =
