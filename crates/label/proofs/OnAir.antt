@@ -137,16 +137,17 @@ ceiling-heard l h k from w =
       wider (from - b .by) (from + w) (from - b .by) (suc (from - b .by + (w + b .by))) l (omega arith) (omega (arith, b .no-further)),
     )
 
-second-heard : (l : List Admission) → All Short l → SoFar Ends Short l → KeepsSecond l
-    → (from : ℕ) → onAir from (from + second) l ≤ mostInSecond
-second-heard l h c k from =
+-- what every stretch of a length admits at most, it is on air at most
+heard-as-admitted : (l : List Admission) → All Short l → SoFar Ends Short l → (w most : ℕ) → leastGap ≤ w
+    → ((from : ℕ) → airIn from (from + w) l ≤ most) → (from : ℕ) → onAir from (from + w) l ≤ most
+heard-as-admitted l h c w most g k from =
     let b = back from l h in
-    let cut = from + second - b .by in
-    let same : from - b .by + second ≡ cut = omega (arith, b .no-further) in
-    let end : cut + b .by ≡ from + second = omega (arith, b .short) in
+    let cut = from + w - b .by in
+    let same : from - b .by + w ≡ cut = omega (arith, b .no-further) in
+    let end : cut + b .by ≡ from + w = omega (arith, b .short) in
     omega (
       arith,
-      adds from cut (from + second) l (omega (arith, b .short)) (omega arith),
+      adds from cut (from + w) l (omega (arith, b .short)) (omega arith),
       b .whole cut (omega (arith, b .short)),
       rw same at (k (from - b .by)),
       rw end at (one-at-once cut (b .by) l c),
@@ -190,8 +191,12 @@ module _ (ss : List Started) (r : Restarts ss) where
   whole : SoFar Ends Short (sentInAll ss)
   whole = row Ends Short (λ made a next h. omega arith) (λ made a h. h) (λ a next h s. omega arith) ss r (of-runs ss)
 
+  as-admitted : (w most : ℕ) → leastGap ≤ w → ((from : ℕ) → airIn from (from + w) (sentInAll ss) ≤ most)
+      → (from : ℕ) → onAir from (from + w) (sentInAll ss) ≤ most
+  as-admitted = heard-as-admitted (sentInAll ss) (shorts (sentInAll ss) whole) whole
+
   in-one : (from : ℕ) → onAir from (from + second) (sentInAll ss) ≤ mostInSecond
-  in-one = second-heard (sentInAll ss) (shorts (sentInAll ss) whole) whole (restarts-keep ss r .in-any-second)
+  in-one = as-admitted second mostInSecond (omega arith) (restarts-keep ss r .in-any-second)
 
   in-some : (n from : ℕ) → onAir from (from + n * second) (sentInAll ss) ≤ n * mostInSecond
   in-some zero from = omega (arith, one-at-once from 0 (sentInAll ss) whole)
@@ -209,6 +214,7 @@ module _ (ss : List Started) (r : Restarts ss) where
 pub receiver-hears : ReceiverHears
 receiver-hears ss r =
     record {
+      as-admitted = as-admitted ss r;
       in-a-second = in-one ss r;
       in-seconds = in-some ss r;
       ceiling = λ c. ceiling-heard (sentInAll ss) (shorts (sentInAll ss) (whole ss r)) (restarts-keep ss r .ceiling c);

@@ -4,8 +4,9 @@ use Prim.Native.Nat.{ℕ, _+_, _-_, _*_, _≤_}
 use mathlib.Core.Path.{_≡_}
 use mathlib.Core.Bool.{true}
 use mathlib.Core.List.{List, [], _∷_}
-use Rattle.control.specs.Owed.{spare, second, claimsCeiling}
+use Rattle.control.specs.Owed.{spare, second, leastGap, claimsCeiling}
 use Rattle.model.specs.declared.Admission.{Admission}
+use Rattle.model.specs.Journal.{airIn}
 use Rattle.model.specs.Claims.{All, mostInSecond}
 use Rattle.label.specs.Restarts.{Started, sentInAll, Restarts}
 
@@ -19,8 +20,12 @@ unfoldable pub onAir : (from until : ℕ) → List Admission → ℕ
 onAir from until [] = 0
 onAir from until (a ∷ l) = heard from until a + onAir from until l
 
--- of runs of any profiles, one after the other
+-- of runs of any profiles, one after the other, each silent for a second first
 pub record Heard (ss : List Started) : Type 0 where
+  -- what every stretch of a length admits at most, of 25 ms or longer, is on air in it at most
+  pub as-admitted : (w most : ℕ) → leastGap ≤ w
+      → ((from : ℕ) → airIn from (from + w) (sentInAll ss) ≤ most)
+      → (from : ℕ) → onAir from (from + w) (sentInAll ss) ≤ most
   -- "in any second": 30 ms
   pub in-a-second : (from : ℕ) → onAir from (from + second) (sentInAll ss) ≤ mostInSecond
   -- "in any n seconds": n x 30 ms
