@@ -20,7 +20,7 @@ use Rattle.model.specs.Journal.{airTime, airIn}
 use Rattle.model.specs.Claims.{All, mostInSecond}
 use Rattle.model.proofs.DeliveryLines.{all-more}
 use Rattle.label.specs.Trailer.{Run, journal}
-use Rattle.label.specs.Restarts.{Started, sentInAll, Restarts}
+use Rattle.label.specs.Restarts.{Started, sentInAll, silence, Restarts}
 use Rattle.label.specs.OnAir.{onAir}
 use Rattle.label.specs.Most.{stride, byWaits, bySecond, byCeiling, most, Alike, AtMost, MostHolds, MostByProfile}
 use Rattle.label.proofs.Second.{adds, none}
@@ -129,9 +129,9 @@ paced-all : (profile : ℕ) (ss : List Started) → All (λ (s : Started). s .ru
 paced-all profile ss =
     all-more _ _ ss (λ s e. subst (λ (p : ℕ). Paced p (journal (s .run) .admissions)) e (paced (s .run)))
 
-paid : (profile : ℕ) (a : Admission) (next : ℕ) → Allows profile a → a .at + second ≤ next → Waits profile a next
+paid : (profile : ℕ) (a : Admission) (next : ℕ) → Allows profile a → a .at + silence ≤ next → Waits profile a next
 paid profile a next h s =
-    let short = on-limits (λ l. stride l ≤ second) profile (omega arith) (omega arith) (omega arith) (omega arith) in
+    let short = on-limits (λ l. stride l ≤ silence) profile (omega arith) (omega arith) (omega arith) (omega arith) in
     omega (arith, short, mul-le-mul-left (limitsOf profile .fromend) h)
 
 module _ (profile : ℕ) (rs : Alike profile) where

@@ -14,7 +14,7 @@ use Rattle.model.proofs.Window.{Spaced, SpacedSoFar, window}
 use Rattle.model.proofs.Runs.{InRun, run-on, run-begins}
 use Rattle.model.proofs.DeliveryLines.{all-more}
 use Rattle.label.specs.Trailer.{Run, viewAtEnd, journal}
-use Rattle.label.specs.Restarts.{Started, later, sentIn, sentInAll, Silence, Restarts, WaitsFirst, KeepsSecond}
+use Rattle.label.specs.Restarts.{Started, later, sentIn, sentInAll, silence, Silent, Restarts, WaitsFirst, KeepsSecond}
 use Rattle.label.specs.Restarts.{KeepsTheCeiling, RestartsKeep, WaitingRestarts}
 use Rattle.label.proofs.Second.{second-of}
 use Rattle.label.proofs.Windows.{moved, one-of-two}
@@ -71,7 +71,7 @@ restarts-keep ss r = record { in-any-second = second-row ss r; ceiling = ceiling
 
 -- a host that waits first
 silent : (made : ℕ) (l before : List Admission) → All (λ (a : Admission). a .at ≤ made) before
-    → All (λ (a : Admission). second ≤ a .at) l → Silence second (map (later made) l) before
+    → All (λ (a : Admission). silence ≤ a .at) l → Silent (map (later made) l) before
 silent made [] before h k = tt
 silent made (b ∷ l) before h k = (all-more _ _ before (λ a e. omega (arith, k .0)) h, silent made l before h (k .1))
 

@@ -2,11 +2,10 @@
 -- lists joined with that silence between them are such a list again; and so are the admissions of runs.
 use Prim.Native.Nat.{ℕ, _+_, _≤_}
 use mathlib.Core.List.{List, [], _∷_, _++_, map}
-use Rattle.control.specs.Owed.{second}
 use Rattle.model.specs.declared.Admission.{Admission}
 use Rattle.model.specs.Claims.{All}
 use Rattle.label.specs.Trailer.{journal}
-use Rattle.label.specs.Restarts.{Started, later, sentIn, sentInAll, Silence, Restarts}
+use Rattle.label.specs.Restarts.{Started, later, sentIn, sentInAll, silence, Silent, Restarts}
 
 -- owes: what an admission owes to the time of the next; alone: what it keeps by itself
 module _ (owes : Admission → ℕ → Type 0) (alone : Admission → Type 0) where
@@ -37,14 +36,14 @@ module _ (owes : Admission → ℕ → Type 0) (alone : Admission → Type 0) wh
     moved-so-far made (a ∷ l) c = (moves-alone made a (c .0), chain-moved made (a .at) l (c .1))
 
     -- a second later it owes nothing more
-    module _ (paid : (a : Admission) (next : ℕ) → alone a → a .at + second ≤ next → owes a next) where
-      chain-joined : (next : ℕ) (b : Admission) (after before : List Admission) → Silence second (b ∷ after) before → SoFar before
+    module _ (paid : (a : Admission) (next : ℕ) → alone a → a .at + silence ≤ next → owes a next) where
+      chain-joined : (next : ℕ) (b : Admission) (after before : List Admission) → Silent (b ∷ after) before → SoFar before
           → Chain next (b ∷ after) → Chain next (b ∷ after ++ before)
       chain-joined next b [] [] s h c = c
       chain-joined next b [] (a ∷ before) s h c = (c .0, c .1, (paid a (b .at) (h .0) (s .0 .0), h .0, h .1))
       chain-joined next b (d ∷ after) before s h c = (c .0, c .1, chain-joined (b .at) d after before (s .1) h (c .2))
 
-      pub joined-so-far : (after before : List Admission) → Silence second after before → SoFar after → SoFar before
+      pub joined-so-far : (after before : List Admission) → Silent after before → SoFar after → SoFar before
           → SoFar (after ++ before)
       joined-so-far [] before s h k = k
       joined-so-far (b ∷ []) [] s h k = h

@@ -16,7 +16,7 @@ use Rattle.model.specs.Journal.{airTime, airIn}
 use Rattle.model.specs.Claims.{All}
 use Rattle.model.specs.Delivery.{Among}
 use Rattle.model.proofs.DeliveryLines.{all-of, all-more}
-use Rattle.label.specs.Restarts.{later, Silence}
+use Rattle.label.specs.Restarts.{silence, later, Silent}
 
 -- it counts where its test holds
 if-le : (p q : Bool) (n : ℕ) → (p ≡ true → q ≡ true) → cond p n 0 ≤ cond q n 0
@@ -97,12 +97,12 @@ none-or from until (a ∷ l) f g =
     (λ b m. g b (inr m)))
 
 -- "silent for a second": a stretch of a second has admissions of one of the two lists alone
-pub one-of-two : (from most : ℕ) (after before : List Admission) → Silence second after before
+pub one-of-two : (from most : ℕ) (after before : List Admission) → Silent after before
     → airIn from (from + second) after ≤ most → airIn from (from + second) before ≤ most
     → airIn from (from + second) (after ++ before) ≤ most
 one-of-two from most after before s x y =
     none-or from (from + second) before (λ z. omega (arith, joined from (from + second) after before, z))
     (λ a m f.
     let late : All (λ (b : Admission). from + second ≤ b .at) after =
-    all-more _ _ after (λ b h. omega (arith, all-of (λ (c : Admission). c .at + second ≤ b .at) a before h m)) s in
+    all-more _ _ after (λ b h. omega (arith, all-of (λ (c : Admission). c .at + silence ≤ b .at) a before h m)) s in
     omega (arith, joined from (from + second) after before, all-behind from (from + second) after late))

@@ -28,22 +28,26 @@ unfoldable pub sentInAll : List Started → List Admission
 sentInAll [] = []
 sentInAll (s ∷ ss) = sentIn s ++ sentInAll ss
 
--- each admission so many µs or more after each of those before
-abbrev pub Silence : (gap : ℕ) → (after before : List Admission) → Type 0
-Silence gap after before = All (λ (b : Admission). All (λ (a : Admission). a .at + gap ≤ b .at) before) after
+-- "stay silent for a second", in µs
+abbrev pub silence : ℕ
+silence = 1000000
+
+-- each admission so long or longer after each of those before
+abbrev pub Silent : (after before : List Admission) → Type 0
+Silent after before = All (λ (b : Admission). All (λ (a : Admission). a .at + silence ≤ b .at) before) after
 
 -- each run's first admission comes a second or more after the last of the runs before it
 abbrev pub Restarts : List Started → Type 0
 Restarts [] = Unit {0}
-Restarts (s ∷ ss) = Silence second (sentIn s) (sentInAll ss) × Restarts ss
+Restarts (s ∷ ss) = Silent (sentIn s) (sentInAll ss) × Restarts ss
 
--- "a new gate's first poll comes a second or more after its make": what a host does that knows nothing of the
--- runs before but that they are over
+-- "no poll in the first second after a make": what a host does that knows nothing of the runs before but that
+-- they are over
 abbrev pub WaitsFirst : List Started → Type 0
 WaitsFirst [] = Unit {0}
 WaitsFirst (s ∷ ss) =
     All (λ (a : Admission). a .at ≤ s .made) (sentInAll ss)
-    × All (λ (a : Admission). second ≤ a .at) (journal (s .run) .admissions)
+    × All (λ (a : Admission). silence ≤ a .at) (journal (s .run) .admissions)
     × WaitsFirst ss
 
 -- "on-times admitted in any half-open stretch of 1,000,000 µs sum to at most 30,000" (document 02, W-207)
