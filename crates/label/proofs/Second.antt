@@ -35,13 +35,13 @@ one-by-one from middle until a f u =
     o = a .ontime
 
 -- one stretch and the next
-adds : (from middle until : ℕ) (l : List Admission) → from ≤ middle → middle ≤ until
+pub adds : (from middle until : ℕ) (l : List Admission) → from ≤ middle → middle ≤ until
     → airIn from until l ≡ airIn from middle l + airIn middle until l
 unfolding airIn
 adds from middle until [] f u = refl
 adds from middle until (a ∷ l) f u = omega (arith, one-by-one from middle until a f u, adds from middle until l f u)
 
-none : (from until : ℕ) (l : List Admission) → until ≤ from → airIn from until l ≡ 0
+pub none : (from until : ℕ) (l : List Admission) → until ≤ from → airIn from until l ≡ 0
 unfolding airIn
 none from until [] h = refl
 none from until (a ∷ l) h =
@@ -49,6 +49,10 @@ none from until (a ∷ l) h =
     (λ e. on-test (λ x. cond x (a .ontime) 0 + airIn from until l ≡ 0) (ltb (a .at) until) (λ g. absurd (omega tested))
     (λ g. omega (arith, none from until l h)))
     (λ e. omega (arith, none from until l h))
+
+-- one second, of a run
+pub second-of : (r : Run) (from : ℕ) → airIn from (from + 1000000) (journal r .admissions) ≤ 30000
+second-of r from = demand3 (r .making) (r .calls) (r .ready) .in-any-second from
 
 in-seconds : (r : Run) (n from : ℕ) → airIn from (from + n * 1000000) (journal r .admissions) ≤ n * 30000
 in-seconds r zero from = omega (arith, none from (from + 0) (journal r .admissions) (omega arith))
@@ -58,7 +62,7 @@ in-seconds r (suc n) from =
     rw e
     (omega (
       arith,
-      demand3 (r .making) (r .calls) (r .ready) .in-any-second from,
+      second-of r from,
       in-seconds r n next,
       adds from next (next + n * 1000000) (journal r .admissions) (omega arith) (omega arith),
     ))
@@ -66,7 +70,7 @@ in-seconds r (suc n) from =
 pub second : Second
 second =
     record {
-      in-a-second = λ r from. demand3 (r .making) (r .calls) (r .ready) .in-any-second from;
+      in-a-second = second-of;
       in-a-minute = λ r from. in-seconds r 60 from;
       in-an-hour = λ r from. in-seconds r 3600 from;
       in-seconds = λ n r from. in-seconds r n from;
