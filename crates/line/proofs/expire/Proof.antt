@@ -30,7 +30,9 @@ empty-requires : tie.Need-empty-requires Inv-loop μ-loop
 empty-requires c κs = search needs
 
 loop-holds : tie.Need-loop-holds Inv-loop μ-loop
-loop-holds c = (omega arith, keeps-none (c .before .before .args .t1 .packets) (c .before .before .args .now) _ (c .empty .ensures))
+loop-holds c =
+    let s = c .before .before in
+    (omega arith, keeps-none (s .args .t1 .packets) (s .args .now) _ (c .empty .ensures))
 
 mul-p : tie.Need-mul-p Inv-loop μ-loop
 mul-p c = search needs
