@@ -2,19 +2,17 @@
 -- fails here.
 use Prim.Native.Nat.{ℕ}
 use mathlib.Core.Path.{_≡_, refl}
-use mathlib.Core.Bool.{Bool, true, false}
+use mathlib.Core.Bool.{true, false}
 use mathlib.Core.List.{List, [], _∷_, _++_, map}
 use lib.ListN.{length, set, replicate}
 use Rattle.rules.specs.Profiles.{within}
 use Rattle.packing.specs.Packing.{filled, allAre, padded}
 use Rattle.machine.specs.declared.Levels.{Levels}
-use Rattle.machine.specs.declared.Loads.{Loads}
 use Rattle.machine.specs.declared.Moved.{Moved}
 use Rattle.machine.specs.Levels.{levelsOf, thresholds, waits, thresholdAt, waitAt, waitOf, rising, goodList, badList}
 use Rattle.machine.specs.Levels.{soundList, tidied, noneListed, noLevels}
-use Rattle.machine.specs.Loads.{loadsOf, loads, lastOf, noted, packed, soundLoads, noneHeld, noLoads}
-use Rattle.machine.specs.Moves.{leastFrom, greatestFrom, leastOf, greatestOf, lowOf, highOf, highestTo, highest, upOf, downOf}
-use Rattle.machine.specs.Moves.{levelAfter, movedBy}
+use Rattle.machine.specs.Loads.{loadsOf, loads, noted, packed, soundLoads, noneHeld, noLoads}
+use Rattle.machine.specs.Moves.{leastFrom, greatestFrom, leastOf, lowOf, highOf, highestTo, highest, levelAfter, movedBy}
 
 -- a list in its room
 abbrev list : (own : ℕ) → (ts ws : List ℕ) → Levels
@@ -53,7 +51,9 @@ unfolding of-lists
 nine-levels = refl
 
 -- fewer thresholds, or fewer waits, than levels
-not-there : map badList (levelsOf 2 40000 (1 ∷ []) (replicate 2 40000) ∷ levelsOf 2 40000 (1 ∷ 2 ∷ []) (40000 ∷ []) ∷ []) ≡ true ∷ true ∷ []
+not-there :
+    map badList (levelsOf 2 40000 (1 ∷ []) (replicate 2 40000) ∷ levelsOf 2 40000 (1 ∷ 2 ∷ []) (40000 ∷ []) ∷ [])
+    ≡ true ∷ true ∷ []
 unfolding of-lists
 not-there = refl
 
@@ -80,7 +80,8 @@ unfolding of-lists
 waits-judged = refl
 
 eighth-judged :
-    map (λ (wait : ℕ). badList (levelsOf 8 40000 (eight .above) (set (eight .waits) 7 wait))) (39999 ∷ 40000 ∷ 1000000 ∷ 1000001 ∷ [])
+    map (λ (wait : ℕ). badList (levelsOf 8 40000 (eight .above) (set (eight .waits) 7 wait)))
+    (39999 ∷ 40000 ∷ 1000000 ∷ 1000001 ∷ [])
     ≡ true ∷ false ∷ false ∷ true ∷ []
 unfolding of-lists
 eighth-judged = refl
@@ -101,7 +102,8 @@ litter = refl
 
 litter-kept-out :
     map soundList
-    (littered ∷ levelsOf 1 40000 (littered .above) (tidied littered .waits) ∷ levelsOf 1 40000 (tidied littered .above) (littered .waits)
+    (littered ∷ levelsOf 1 40000 (littered .above) (tidied littered .waits)
+    ∷ levelsOf 1 40000 (tidied littered .above) (littered .waits)
     ∷ tidied littered ∷ [])
     ≡ false ∷ false ∷ false ∷ true ∷ []
 unfolding of-lists
@@ -140,7 +142,8 @@ none-held = refl
 loads-judged :
     map soundLoads
     (noLoads ∷ loadsOf 50 (replicate 50 1000000) ∷ loadsOf 51 (replicate 50 0) ∷ loadsOf 51 (replicate 51 0)
-    ∷ loadsOf 50 (set (replicate 50 0) 49 1000001) ∷ loadsOf 49 (set (replicate 50 0) 49 1) ∷ loadsOf 49 (set (replicate 50 0) 48 1) ∷ [])
+    ∷ loadsOf 50 (set (replicate 50 0) 49 1000001)
+    ∷ loadsOf 49 (set (replicate 50 0) 49 1) ∷ loadsOf 49 (set (replicate 50 0) 48 1) ∷ [])
     ≡ true ∷ true ∷ false ∷ false ∷ false ∷ false ∷ true ∷ []
 unfolding of-loads
 loads-judged = refl
@@ -216,7 +219,9 @@ unfolding run of-moves
 held-50 = refl
 
 -- up is 2 and down 4, of four levels: each level moves the least needed, one that is not of the list too
-least-needed : map (levelAfter (10 ∷ 20 ∷ 30 ∷ 40 ∷ []) (40 ∷ 20 ∷ replicate 9 25)) (0 ∷ 1 ∷ 2 ∷ 3 ∷ 4 ∷ 5 ∷ 9 ∷ []) ≡ 2 ∷ 2 ∷ 2 ∷ 3 ∷ 4 ∷ 4 ∷ 4 ∷ []
+least-needed :
+    map (levelAfter (10 ∷ 20 ∷ 30 ∷ 40 ∷ []) (40 ∷ 20 ∷ replicate 9 25)) (0 ∷ 1 ∷ 2 ∷ 3 ∷ 4 ∷ 5 ∷ 9 ∷ [])
+    ≡ 2 ∷ 2 ∷ 2 ∷ 3 ∷ 4 ∷ 4 ∷ 4 ∷ []
 unfolding of-moves
 least-needed = refl
 
@@ -242,7 +247,10 @@ g5cc-waits = refl
 
 -- its service channels (G5SC) have NDL_maxPacketInterval 2 s, which no list may have; with 1 s in its place it may
 g5sc-judged :
-    map (λ (longest : ℕ). badList (list 40000 (250000 ∷ 300000 ∷ 350000 ∷ 400000 ∷ 500000 ∷ []) (40000 ∷ 40000 ∷ 40000 ∷ 1000000 ∷ longest ∷ [])))
+    map
+    (λ (longest : ℕ).
+    badList
+    (list 40000 (250000 ∷ 300000 ∷ 350000 ∷ 400000 ∷ 500000 ∷ []) (40000 ∷ 40000 ∷ 40000 ∷ 1000000 ∷ longest ∷ [])))
     (2000000 ∷ 1000000 ∷ [])
     ≡ true ∷ false ∷ []
 unfolding of-lists
