@@ -296,7 +296,13 @@ pub fn level_after<'a>(n: usize, above: &'a [u32], held: usize, slots: &'a [u32]
 {
     let up = highest_reached(n, above, low(held, slots));
     let down = highest_reached(n, above, high(held, slots));
-    rules::hold(up, down, level)
+    if level < up {
+        return up;
+    }
+    if down < level {
+        return down;
+    }
+    level
 }
 
 impl Levels {
