@@ -29,9 +29,13 @@ leastOf (x ∷ xs) = leastFrom x xs
 abbrev pub greatestOf : List ℕ → ℕ
 greatestOf xs = greatestFrom 0 xs
 
+-- "the last 10 samples"
+abbrev pub lowOver : ℕ
+lowOver = 10
+
 -- "Low is the least load of the last 10 samples, 0 before there are ten"
 unfoldable pub lowOf : List ℕ → ℕ
-lowOf xs = cond (ltb (length xs) 10) 0 (leastOf (lastOf 10 xs))
+lowOf xs = cond (ltb (length xs) lowOver) 0 (leastOf (lastOf lowOver xs))
 
 -- "high is the greatest of the last 50, or of those there are"
 unfoldable pub highOf : List ℕ → ℕ
