@@ -14,12 +14,12 @@ use Rattle.machine.specs.Loads.{lastOf, mostLoads}
 use Rattle.machine.specs.Moves.{leastFrom, greatestFrom, leastOf, greatestOf, lowOver, lowOf, highOf, highestTo, highest}
 use Rattle.machine.specs.Moves.{upOf, downOf, levelAfter, AlwaysHighest, AlwaysMoves}
 
-least-le : (m : ℕ) (xs : List ℕ) → leastFrom m xs ≤ m
+pub least-le : (m : ℕ) (xs : List ℕ) → leastFrom m xs ≤ m
 unfolding leastFrom
 least-le m [] = omega arith
 least-le m (x ∷ xs) = omega (arith, least-le (min m x) xs)
 
-greatest-ge : (m : ℕ) (xs : List ℕ) → m ≤ greatestFrom m xs
+pub greatest-ge : (m : ℕ) (xs : List ℕ) → m ≤ greatestFrom m xs
 unfolding greatestFrom
 greatest-ge m [] = omega arith
 greatest-ge m (x ∷ xs) = omega (arith, greatest-ge (max m x) xs)
