@@ -11,8 +11,9 @@ use borrow.Author.Tests.{leb-true, leb-false}
 use Rattle.rules.proofs.Cases.{split, on-cond}
 use Rattle.machine.specs.Levels.{thresholdAt}
 use Rattle.machine.specs.Loads.{lastOf, mostLoads}
-use Rattle.machine.specs.Moves.{leastFrom, greatestFrom, leastOf, greatestOf, lowOver, lowOf, highOf, highestTo, highest}
-use Rattle.machine.specs.Moves.{upOf, downOf, levelAfter, AlwaysHighest, AlwaysMoves}
+use Rattle.machine.specs.Moves.{leastFrom, greatestFrom, leastOf, greatestOf, lowOver, lowOf, highOf, reaches}
+use Rattle.machine.specs.Moves.{highestTo, highest, upOf, downOf, levelAfter, AlwaysHighest, AlwaysMoves}
+use Rattle.machine.proofs.Parts.{reaches-true, reaches-false}
 
 pub least-le : (m : ℕ) (xs : List ℕ) → leastFrom m xs ≤ m
 unfolding leastFrom
@@ -61,24 +62,24 @@ highest-le : (ts : List ℕ) (load n : ℕ) → highestTo ts load n ≤ n
 unfolding highestTo
 highest-le ts load zero = omega arith
 highest-le ts load (suc n) =
-    on-cond (λ k. k ≤ suc n) (leb (thresholdAt ts (suc n)) load) (λ e. omega arith) (λ e. omega (arith, highest-le ts load n))
+    on-cond (λ k. k ≤ suc n) (reaches load (thresholdAt ts (suc n))) (λ e. omega arith) (λ e. omega (arith, highest-le ts load n))
 
 highest-reached : (ts : List ℕ) (load n : ℕ) → thresholdAt ts (highestTo ts load n) ≤ load
 unfolding highestTo thresholdAt
 highest-reached ts load zero = omega arith
 highest-reached ts load (suc n) =
-    on-cond (λ k. thresholdAt ts k ≤ load) (leb (thresholdAt ts (suc n)) load) (λ e. leb-true (thresholdAt ts (suc n)) load e)
+    on-cond (λ k. thresholdAt ts k ≤ load) (reaches load (thresholdAt ts (suc n))) (λ e. reaches-true load (thresholdAt ts (suc n)) e)
     (λ e. highest-reached ts load n)
 
 none-above : (ts : List ℕ) (load n k : ℕ) → k ≤ n → thresholdAt ts k ≤ load → k ≤ highestTo ts load n
 unfolding highestTo
 none-above ts load zero k h r = h
 none-above ts load (suc n) k h r =
-    on-cond (λ m. k ≤ m) (leb (thresholdAt ts (suc n)) load) (λ e. h)
+    on-cond (λ m. k ≤ m) (reaches load (thresholdAt ts (suc n))) (λ e. h)
     (λ e. split (leb k n) (λ f. none-above ts load n k (leb-true k n f) r)
     (λ f.
     let s : k ≡ suc n = omega (arith, leb-false k n f) in
-    absurd (omega (arith, leb-false (thresholdAt ts (suc n)) load e, rw s at r))))
+    absurd (omega (arith, reaches-false load (thresholdAt ts (suc n)) e, rw s at r))))
 
 pub always-highest : AlwaysHighest
 always-highest ts load =

@@ -12,7 +12,7 @@ use Rattle.machine.specs.declared.Moved.{Moved}
 use Rattle.machine.specs.Levels.{levelsOf, thresholds, waits, thresholdAt, waitAt, waitOf, rising, goodList, badList}
 use Rattle.machine.specs.Levels.{soundList, tidied, noneListed, noLevels}
 use Rattle.machine.specs.Loads.{loadsOf, loads, noted, packed, soundLoads, noneHeld, noLoads}
-use Rattle.machine.specs.Moves.{leastFrom, greatestFrom, leastOf, lowOf, highOf, highestTo, highest, levelAfter, movedBy}
+use Rattle.machine.specs.Moves.{leastFrom, greatestFrom, leastOf, lowOf, highOf, reaches, highestTo, highest, levelAfter, movedBy}
 
 -- a list in its room
 abbrev list : (own : ℕ) → (ts ws : List ℕ) → Levels
@@ -157,7 +157,7 @@ oldest-goes : noted (7 ∷ 8 ∷ replicate 48 5) 9 ≡ 8 ∷ (replicate 48 5 ++ 
 oldest-goes = refl
 
 unfoldable of-moves : Type 0
-unfolding packed filled thresholdAt leastFrom greatestFrom leastOf lowOf highOf highestTo levelAfter movedBy
+unfolding packed filled thresholdAt leastFrom greatestFrom leastOf lowOf highOf reaches highestTo levelAfter movedBy
 of-moves = Unit {0}
 
 -- "Low is the least load of the last 10 samples, 0 before there are ten"
@@ -177,12 +177,12 @@ unfolding of-moves
 highs = refl
 
 -- "Up is the highest level whose threshold low reaches": just reached, and one below; the highest of several
-reaches :
+highest-reached :
     map (highest (thresholds eight))
     (0 ∷ 1 ∷ 2 ∷ 99999 ∷ 100000 ∷ 400000 ∷ 400001 ∷ 999998 ∷ 999999 ∷ 1000000 ∷ [])
     ≡ 0 ∷ 1 ∷ 2 ∷ 3 ∷ 4 ∷ 5 ∷ 6 ∷ 6 ∷ 7 ∷ 8 ∷ []
 unfolding of-moves
-reaches = refl
+highest-reached = refl
 
 -- samples one after the other
 unfoldable run : Levels → Moved → List ℕ → Moved

@@ -2,7 +2,7 @@
 -- 000 print unlike indices, so document 02 decides.
 use Prim.Native.Nat.{ℕ, zero, suc, _+_, _-_, _≤_, _<_, min, max}
 use mathlib.Core.Path.{_≡_}
-use mathlib.Core.Bool.{true, cond}
+use mathlib.Core.Bool.{Bool, true, cond}
 use mathlib.Core.List.{List, [], _∷_}
 use lib.Dec.{leb, ltb}
 use lib.ListN.{length, getD}
@@ -43,10 +43,14 @@ lowOf xs = cond (ltb (length xs) lowOver) 0 (leastOf (lastOf lowOver xs))
 unfoldable pub highOf : List ℕ → ℕ
 highOf xs = greatestOf (lastOf mostLoads xs)
 
+-- a load "reaches" a threshold if it is no less
+unfoldable pub reaches : (load threshold : ℕ) → Bool
+reaches load threshold = leb threshold load
+
 -- "the highest level whose threshold" a load "reaches", of levels 0 to n
 unfoldable pub highestTo : (ts : List ℕ) → (load n : ℕ) → ℕ
 highestTo ts load zero = 0
-highestTo ts load (suc n) = cond (leb (thresholdAt ts (suc n)) load) (suc n) (highestTo ts load n)
+highestTo ts load (suc n) = cond (reaches load (thresholdAt ts (suc n))) (suc n) (highestTo ts load n)
 
 abbrev pub highest : (ts : List ℕ) → (load : ℕ) → ℕ
 highest ts load = highestTo ts load (length ts)
