@@ -68,7 +68,8 @@ highest-reached : (ts : List ℕ) (load n : ℕ) → thresholdAt ts (highestTo t
 unfolding highestTo thresholdAt
 highest-reached ts load zero = omega arith
 highest-reached ts load (suc n) =
-    on-cond (λ k. thresholdAt ts k ≤ load) (reaches load (thresholdAt ts (suc n))) (λ e. reaches-true load (thresholdAt ts (suc n)) e)
+    on-cond (λ k. thresholdAt ts k ≤ load) (reaches load (thresholdAt ts (suc n)))
+    (λ e. reaches-true load (thresholdAt ts (suc n)) e)
     (λ e. highest-reached ts load n)
 
 none-above : (ts : List ℕ) (load n k : ℕ) → k ≤ n → thresholdAt ts k ≤ load → k ≤ highestTo ts load n

@@ -12,7 +12,8 @@ use Rattle.machine.specs.declared.Moved.{Moved}
 use Rattle.machine.specs.Levels.{levelsOf, thresholds, waits, thresholdAt, waitAt, waitOf, rising, goodList, badList}
 use Rattle.machine.specs.Levels.{soundList, tidied, noneListed, noLevels}
 use Rattle.machine.specs.Loads.{loadsOf, loads, noted, packed, soundLoads, noneHeld, noLoads}
-use Rattle.machine.specs.Moves.{leastFrom, greatestFrom, leastOf, lowOf, highOf, reaches, highestTo, highest, levelAfter, movedBy}
+use Rattle.machine.specs.Moves.{leastFrom, greatestFrom, leastOf, lowOf, highOf, reaches, highestTo, highest}
+use Rattle.machine.specs.Moves.{levelAfter, movedBy}
 
 -- a list in its room
 abbrev list : (own : ℕ) → (ts ws : List ℕ) → Levels
