@@ -75,13 +75,13 @@ always-low-and-high xs =
     let high = lastOf mostLoads xs in
     let n = length xs in
     record {
-      early = λ h. rw (lt-ltb n lowOver h);
+      early = λ h. rw (lt-ltb n lowOver (omega arith));
       low-le = λ h i a.
           let l = length-last lowOver xs in
-          rw (le-ltb n lowOver h, ← last-place lowOver xs i a) (least-of-at low (i - (n - lowOver)) (omega arith));
+          rw (le-ltb n lowOver (omega arith), ← last-place lowOver xs i a) (least-of-at low (i - (n - lowOver)) (omega arith));
       low-most = λ h b f.
           let l = length-last lowOver xs in
-          rw (le-ltb n lowOver h)
+          rw (le-ltb n lowOver (omega arith))
           (at-least-of low b (omega arith)
           (λ j k. rw (last-at lowOver xs j) (f ((n - lowOver) + j) (place-last lowOver xs j k))));
       high-ge = λ i a.
