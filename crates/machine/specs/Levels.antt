@@ -132,3 +132,9 @@ pub record Tidied (l : Levels) : Type 0 where
 
 abbrev pub GoodIsTidied : Type 0
 GoodIsTidied = (l : Levels) → badList l ≡ false → Tidied l
+
+-- no list is this one alone
+abbrev pub NoneListedIsNone : Type 0
+NoneListedIsNone =
+    (l : Levels) → length (l .above) ≡ mostLevels → length (l .waits) ≡ mostLevels → noneListed l ≡ true
+    → l ≡ noLevels
