@@ -2,11 +2,11 @@
 -- last place. What was sound stays so, since no load is put in that is not allowed and the room is filled with zeros.
 use Prim.Native.Nat.{ℕ, zero, suc, _+_, _-_, _≤_, _<_}
 use mathlib.Core.Path.{_≡_, refl, ap, ap₂, sym, _∙_}
-use mathlib.Core.Bool.{Bool, true, _&&_}
+use mathlib.Core.Bool.{Bool, true}
 use mathlib.Core.List.{List, [], _∷_, _++_, append-nil}
 use native.Mathlib.Omega.{arith}
-use lib.Dec.{leb}
-use lib.ListN.{length, take, drop, set, replicate, length-append, length-drop, length-take, drop-of-length-le}
+use lib.Dec.{leb, eqb}
+use lib.ListN.{length, take, drop, set, length-append, length-drop, drop-of-length-le}
 use lib.Seq.{take-all, drop-append-le, set-split, length-take-le}
 use borrow.Author.Tests.{eqb-true, leb-true}
 use Rattle.rules.specs.Profiles.{fullLoad}
@@ -14,7 +14,8 @@ use Rattle.rules.proofs.Cases.{both, true-within}
 use Rattle.packing.specs.Packing.{filled, allAre, padded, isUnused}
 use Rattle.packing.proofs.Packing.{set-filled, list-filled, padded-filled, filled-padded}
 use Rattle.machine.specs.declared.Loads.{Loads}
-use Rattle.machine.specs.Loads.{mostLoads, loadAllowed, loadsOf, loads, lastOf, noted, packed, soundLoads, NotedStaySound}
+use Rattle.machine.specs.Loads.{mostLoads, loadAllowed, loadsOf, loads, noted, packed, soundLoads, noneHeld}
+use Rattle.machine.specs.Loads.{NotedStaySound, NoneHeldIsNone}
 
 same : (m n : ℕ) (a b : List ℕ) → m ≡ n → a ≡ b → loadsOf m a ≡ loadsOf n b
 same m n a b e f = λ i. loadsOf (e i) (f i)
@@ -108,3 +109,11 @@ sound-packed l s e =
     let p = both (padded isUnused mostLoads (l .len) (l .slots)) (allAre loadAllowed (loads l)) e .0 in
     let n : length (loads l) ≡ l .len = length-take-le (l .len) (l .slots) (omega (arith, padded-few (l .len) (l .slots) p)) in
     same _ _ _ _ (sym n) (padded-filled mostLoads 0 isUnused (λ x h. eqb-true x 0 h) (l .len) (l .slots) s p)
+
+-- room of which all is zero is the room of no loads
+pub none-held : NoneHeldIsNone
+unfolding noneHeld padded filled
+none-held l s e =
+    let b = both (eqb (l .len) 0) (allAre isUnused (l .slots)) e in
+    same _ _ _ _ (eqb-true (l .len) 0 (b .0))
+    (padded-filled mostLoads 0 isUnused (λ x h. eqb-true x 0 h) 0 (l .slots) s (b .1))

@@ -2,6 +2,7 @@
 -- level's number stands one place before it.
 use Prim.Native.Nat.{ℕ, zero, suc, _+_, _-_, _≤_, _<_, min}
 use mathlib.Core.Path.{_≡_, refl, ap, sym, _∙_}
+use mathlib.Core.Bool.{true, false}
 use mathlib.Core.List.{List, [], _∷_}
 use native.Mathlib.Nat.{suc-add}
 use native.Mathlib.Omega.{arith}
@@ -12,7 +13,7 @@ use borrow.Author.Tests.{le-leb, lt-leb, leb-true, leb-false}
 use Rattle.rules.proofs.Cases.{split}
 use Rattle.machine.specs.Levels.{mostLevels, mostListed, listed, thresholdAt, waitAt}
 use Rattle.machine.specs.Loads.{lastOf}
-use Rattle.machine.specs.Moves.{leastFrom, leastOf, highestTo}
+use Rattle.machine.specs.Moves.{leastFrom, leastOf, reaches, highestTo}
 
 module _ (xs : List ℕ) where
   -- so many as there are
@@ -67,16 +68,33 @@ length-listed n xs = omega (arith, length-take (min n mostLevels) xs)
 pub listed-at : (n k d : ℕ) (xs : List ℕ) → k < min n mostLevels → getD (listed n xs) k d ≡ getD xs k d
 listed-at n k d xs h = getD-take (min n mostLevels) xs k d h
 
+-- what reaching says, and what says it
+pub reaches-true : (load t : ℕ) → reaches load t ≡ true → t ≤ load
+unfolding reaches
+reaches-true load t e = leb-true t load e
+
+pub reaches-false : (load t : ℕ) → reaches load t ≡ false → load < t
+unfolding reaches
+reaches-false load t e = leb-false t load e
+
+true-reaches : (load t : ℕ) → t ≤ load → reaches load t ≡ true
+unfolding reaches
+true-reaches load t h = le-leb t load h
+
+false-reaches : (load t : ℕ) → load < t → reaches load t ≡ false
+unfolding reaches
+false-reaches load t h = lt-leb t load h
+
 -- a level whose threshold is reached, and one whose isn't
 pub reached : (ts : List ℕ) (load n : ℕ) → 0 < n → getD ts (n - 1) 0 ≤ load → highestTo ts load n ≡ n
 unfolding highestTo thresholdAt
 reached ts load zero p h = absurd (omega arith)
-reached ts load (suc n) p h = let e : suc n - 1 ≡ n = omega arith in rw (le-leb (getD ts n 0) load (rw e at h))
+reached ts load (suc n) p h = let e : suc n - 1 ≡ n = omega arith in rw (true-reaches load (getD ts n 0) (rw e at h))
 
 pub missed : (ts : List ℕ) (load n : ℕ) → 0 < n → load < getD ts (n - 1) 0 → highestTo ts load n ≡ highestTo ts load (n - 1)
 unfolding highestTo thresholdAt
 missed ts load zero p h = absurd (omega arith)
-missed ts load (suc n) p h = let e : suc n - 1 ≡ n = omega arith in rw (lt-leb (getD ts n 0) load (rw e at h), e)
+missed ts load (suc n) p h = let e : suc n - 1 ≡ n = omega arith in rw (false-reaches load (getD ts n 0) (rw e at h), e)
 
 -- the wait of a level above 0: of one in the list, and of one past it
 pub wait-above : (own level : ℕ) (ws : List ℕ) → 0 < level → waitAt own ws level ≡ getD ws (level - 1) mostListed

@@ -1,20 +1,22 @@
 -- A good list's levels are all read, so the room filled with them gives them back, with zeros behind; and the waits of a good
 -- list keep the limits.
 use Prim.Native.Nat.{ℕ, _≤_, min}
-use mathlib.Core.Path.{_≡_, refl, ap, sym, _∙_}
-use mathlib.Core.Bool.{Bool, true, _&&_}
-use mathlib.Core.List.{List}
+use mathlib.Core.Path.{_≡_, refl, ap, _∙_}
+use mathlib.Core.Bool.{true}
+use mathlib.Core.List.{List, [], _∷_}
 use native.Mathlib.Omega.{arith}
-use lib.Dec.{leb}
+use lib.Dec.{leb, eqb}
 use lib.ListN.{length, take, drop}
-use borrow.Author.Tests.{le-leb, not-false}
+use borrow.Author.Tests.{le-leb, eqb-true, not-false}
 use Rattle.rules.specs.Profiles.{within}
 use Rattle.rules.proofs.Cases.{both}
+use Rattle.rules.proofs.Tests.{all-true}
 use Rattle.packing.specs.Packing.{filled, allAre, padded, isUnused}
-use Rattle.packing.proofs.Packing.{length-filled, list-filled, filled-padded}
+use Rattle.packing.proofs.Packing.{length-filled, list-filled, padded-filled, filled-padded}
 use Rattle.machine.specs.declared.Levels.{Levels}
-use Rattle.machine.specs.Levels.{mostLevels, waitAllowed, thresholdAllowed, listed, thresholds, waits, waitAt, waitOf}
-use Rattle.machine.specs.Levels.{rising, goodList, soundList, tidied, Tidied, GoodIsTidied, WaitsListed}
+use Rattle.machine.specs.Levels.{mostLevels, waitAllowed, thresholdAllowed, listed, waits, waitAt}
+use Rattle.machine.specs.Levels.{rising, goodList, soundList, tidied, noneListed, levelsOf}
+use Rattle.machine.specs.Levels.{GoodIsTidied, WaitsListed, NoneListedIsNone}
 use Rattle.machine.proofs.Parts.{length-listed}
 use Rattle.machine.proofs.Judged.{rules-of, there, wait-within, by-waits}
 
@@ -86,3 +88,14 @@ pub wait-listed : WaitsListed
 wait-listed l level b =
     let r = rules-of l (not-false (goodList l) b) in
     wait-within (l .wait) (waits l) (r .0 .own) (r .1) level
+
+-- room of which all is zero is the room of no list
+pub none-listed : NoneListedIsNone
+unfolding noneListed padded filled
+none-listed l a w e =
+    let h =
+    all-true (eqb (l .len) 0 ∷ eqb (l .wait) 0 ∷ allAre isUnused (l .above) ∷ allAre isUnused (l .waits) ∷ []) e in
+    let zeros = padded-filled mostLevels 0 isUnused (λ x z. eqb-true x 0 z) 0 in
+    λ i.
+    levelsOf (eqb-true (l .len) 0 (h .0) i) (eqb-true (l .wait) 0 (h .1 .0) i) (zeros (l .above) a (h .1 .1 .0) i)
+    (zeros (l .waits) w (h .1 .1 .1 .0) i)

@@ -53,3 +53,7 @@ abbrev pub NotedStaySound : Type 0
 NotedStaySound =
     (l : Loads) (load : ℕ) → soundLoads l ≡ true → load ≤ fullLoad
     → soundLoads (packed (noted (loads l) load)) ≡ true
+
+-- no loads are these alone
+abbrev pub NoneHeldIsNone : Type 0
+NoneHeldIsNone = (l : Loads) → length (l .slots) ≡ mostLoads → noneHeld l ≡ true → l ≡ noLoads
