@@ -1,0 +1,93 @@
+-- How long a packet of any priority waits: what stands before it, and what comes before it while it waits
+-- (docs/LABEL.md, "Turn").
+use Prim.Native.Nat.{ℕ, zero, suc, _+_, _-_, _*_, _≤_, _<_}
+use mathlib.Core.Path.{_≡_}
+use mathlib.Core.List.{List, []}
+use lib.ListN.{length}
+use Rattle.control.specs.Owed.{quiet}
+use Rattle.model.specs.declared.Offer.{Offer}
+use Rattle.model.specs.declared.Answer.the-variants.{Taken}
+use Rattle.model.specs.Fours.{Four, column}
+use Rattle.model.specs.Calls.{Call, offer}
+use Rattle.model.specs.Gate.{call}
+use Rattle.model.specs.Journal.{Entry, Journal, fed, journalOf}
+use Rattle.model.specs.Claims.{events}
+use Rattle.model.specs.Delivery.{Among, offeredEntry}
+use Rattle.label.specs.Trailer.{Run, viewAtEnd, journal, Served}
+
+-- how many are of a lower number than a priority: those go before it
+abbrev pub below : {A : Type 0} → (priority : ℕ) → Four A → ℕ
+below zero q = 0
+below (suc zero) q = length (q .c0)
+below (suc (suc zero)) q = length (q .c0) + length (q .c1)
+below (suc (suc (suc n))) q = length (q .c0) + length (q .c1) + length (q .c2)
+
+-- a packet that is TAKEN at the end of a run, and calls behind it
+pub record Wait : Type 0 where
+  pub run : Run
+  pub stamp : ℕ
+  pub packet : Offer
+  pub taken : call (viewAtEnd run) (offer stamp packet) .answer ≡ Taken
+  pub during : List Call
+
+-- the book right behind the offer, and at the end
+abbrev pub whenItCame : Wait → Journal
+whenItCame w = fed (journal (w .run)) (offer (w .stamp) (w .packet)) Taken
+
+abbrev pub sinceItCame : Wait → Journal
+sinceItCame w =
+    journalOf (whenItCame w) (events (call (viewAtEnd (w .run)) (offer (w .stamp) (w .packet)) .view) (w .during))
+
+-- its entry
+abbrev pub its : Wait → Entry
+its w = offeredEntry (journal (w .run)) (w .stamp) (w .packet)
+
+-- it waits still
+abbrev pub WaitsStill : Wait → Type 0
+WaitsStill w = Among (its w) (column (w .packet .priority) (sinceItCame w .columns))
+
+-- "before it": of its own queue, and of lower numbers
+abbrev pub before : Wait → ℕ
+before w = its w .above + below (w .packet .priority) (whenItCame w .columns)
+
+-- "of lower number, TAKEN while it waits"
+abbrev pub meanwhile : Wait → ℕ
+meanwhile w = below (w .packet .priority) (sinceItCame w .offers) - below (w .packet .priority) (whenItCame w .offers)
+
+-- the packets that went since it came
+abbrev pub went : Wait → ℕ
+went w = length (sinceItCame w .admissions) - length (whenItCame w .admissions)
+
+-- "while it waits, no more packets go than were before it and of lower number came meanwhile"
+abbrev pub InItsTurn : Type 0
+InItsTurn = (w : Wait) → WaitsStill w → went w ≤ before w + meanwhile w
+
+-- "polled at least every p, and something waiting at each poll"
+abbrev pub ServedSince : (p : ℕ) → Wait → Type 0
+ServedSince p w =
+    Served p (whenItCame w .time) (whenItCame w)
+    (events (call (viewAtEnd (w .run)) (offer (w .stamp) (w .packet)) .view) (w .during))
+
+-- the time for which it has waited
+abbrev pub waited : Wait → ℕ
+waited w = sinceItCame w .time - whenItCame w .time
+
+-- "(before it + meanwhile + 1) x (floor + p)"
+abbrev pub WaitsAtMost : Type 0
+WaitsAtMost =
+    (p : ℕ) (w : Wait) → ServedSince p w → WaitsStill w
+    → waited w ≤ suc (before w + meanwhile w) * (quiet (w .run .making .profile) + p)
+
+-- "of lower numbers at most one comes in any so many µs": one when it came, and one more for each such time
+-- that has passed
+abbrev pub OneEvery : (every : ℕ) → Wait → Type 0
+OneEvery every w = meanwhile w * every ≤ waited w + every
+
+-- then, where that is longer than floor + p, it waits for at most this time and that much more, as the others
+-- take of it: waited x (every - (floor + p)) ≤ (before it + 2) x (floor + p) x every
+abbrev pub WaitsAmongOthers : Type 0
+WaitsAmongOthers =
+    (p every : ℕ) (w : Wait) → ServedSince p w → WaitsStill w → OneEvery every w
+    → quiet (w .run .making .profile) + p < every
+    → waited w * (every - (quiet (w .run .making .profile) + p))
+    ≤ (before w + 2) * (quiet (w .run .making .profile) + p) * every
