@@ -6,10 +6,12 @@ use mathlib.Core.Path.{_≡_, refl, ap, sym, _∙_, subst}
 use mathlib.Core.Bool.{Bool, not}
 use mathlib.Core.List.{List, [], _∷_, _++_}
 use mathlib.Core.Logic.{inl, inr}
-use native.Mathlib.Nat.{suc-mul, add-mul, mul-add, mul-comm, mul-assoc, mul-le-mul-right}
+use native.Mathlib.Nat.{suc-mul, add-mul, mul-add, mul-comm, mul-assoc, mul-le-mul-right, le-div-iff-mul-le}
 use native.Mathlib.Omega.{arith}
 use lib.ListN.{length, drop, take}
 use Rattle.rules.proofs.Cases.{on-cond}
+use Rattle.rules.specs.Profiles.{mostOntime}
+use Rattle.rules.specs.Wait.{startOf}
 use Rattle.control.specs.Owed.{quiet}
 use Rattle.model.specs.declared.Packet.{Packet}
 use Rattle.model.specs.declared.Answer.{Answer}
@@ -27,7 +29,7 @@ use Rattle.model.proofs.Displacing.{picked-length, on-room}
 use Rattle.model.proofs.Runs.{runs-are-their-parts}
 use Rattle.label.specs.Trailer.{Run, viewAtEnd, journal, Served}
 use Rattle.label.specs.Priorities.{below, Wait, whenItCame, sinceItCame, its, before, meanwhile, waited, InItsTurn}
-use Rattle.label.specs.Priorities.{WaitsAtMost, WaitsAmongOthers}
+use Rattle.label.specs.Priorities.{WaitsAtMost, WaitsAmongOthers, AmongWarnings}
 use Rattle.label.proofs.Rate.{rate}
 
 -- the entries of a column up to an ordinal, each with n and its place in the column at most m
@@ -327,6 +329,12 @@ pub waits-among-others : WaitsAmongOthers
 waits-among-others p every w s h o l =
     let f = quiet (w .run .making .profile) + p in
     let e : f + (every - f) ≡ every = omega arith in
-    subst (λ (x : ℕ). waited w * (every - f) ≤ (before w + 2) * f * x) e
+    let some : 0 < every - f = omega arith in
+    le-div-iff-mul-le some .1
+    (subst (λ (x : ℕ). waited w * (every - f) ≤ (before w + 2) * f * x) e
     (share (waited w) f (every - f) (before w) (meanwhile w) (waits-at-most p w s h)
-    (subst (λ (x : ℕ). meanwhile w * x ≤ waited w + x) (sym e) o))
+    (subst (λ (x : ℕ). meanwhile w * x ≤ waited w + x) (sym e) o)))
+
+pub among-warnings : AmongWarnings
+unfolding quiet startOf mostOntime
+among-warnings = refl

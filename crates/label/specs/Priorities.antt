@@ -1,8 +1,8 @@
 -- How long a packet of any priority waits: what stands before it, and what comes before it while it waits
 -- (docs/LABEL.md, "Turn").
-use Prim.Native.Nat.{ℕ, zero, suc, _+_, _-_, _*_, _≤_, _<_}
+use Prim.Native.Nat.{ℕ, zero, suc, _+_, _-_, _*_, _/_, _≤_, _<_}
 use mathlib.Core.Path.{_≡_}
-use mathlib.Core.List.{List, []}
+use mathlib.Core.List.{List, [], _∷_, map}
 use lib.ListN.{length}
 use Rattle.control.specs.Owed.{quiet}
 use Rattle.model.specs.declared.Offer.{Offer}
@@ -83,11 +83,20 @@ WaitsAtMost =
 abbrev pub OneEvery : (every : ℕ) → Wait → Type 0
 OneEvery every w = meanwhile w * every ≤ waited w + every
 
--- then, where that is longer than floor + p, it waits for at most this time and that much more, as the others
--- take of it: waited x (every - (floor + p)) ≤ (before it + 2) x (floor + p) x every
+-- "(before it + 2) x (floor + p) x every / (every - (floor + p))": the others take floor + p of every such time
+abbrev pub amongOthers : (profile p every before : ℕ) → ℕ
+amongOthers profile p every before =
+    (before + 2) * (quiet profile + p) * every / (every - (quiet profile + p))
+
+-- then, where they come less often than packets go, it waits for at most that
 abbrev pub WaitsAmongOthers : Type 0
 WaitsAmongOthers =
     (p every : ℕ) (w : Wait) → ServedSince p w → WaitsStill w → OneEvery every w
     → quiet (w .run .making .profile) + p < every
-    → waited w * (every - (quiet (w .run .making .profile) + p))
-    ≤ (before w + 2) * (quiet (w .run .making .profile) + p) * every
+    → waited w ≤ amongOthers (w .run .making .profile) p every (before w)
+
+-- "a warning every 2.2 s, 5 s or 10 s", polled every 50 ms, none before it: at most so long in profile 1
+abbrev pub AmongWarnings : Type 0
+AmongWarnings =
+    map (λ every. amongOthers 1 50000 every 0) (2200000 ∷ 5000000 ∷ 10000000 ∷ [])
+    ≡ 4024717 ∷ 2661433 ∷ 2348865 ∷ []
