@@ -33,7 +33,7 @@ use Rattle.model.specs.State.{View, sound}
 use Rattle.model.specs.Effects.{Result, refreshed, isFull, closed, maySend, polled, effect}
 use Rattle.model.specs.Gate.{checks, call}
 use Rattle.model.specs.Journal.{Journal, Departure, Entry, turned, picked, outlived, lowest, top, sentOf, atPoll}
-use Rattle.model.specs.Journal.{fed, journalOf, lastSecond}
+use Rattle.model.specs.Journal.{fed, journalOf, airIn, lastSecond}
 use Rattle.model.specs.Claims.{viewAfter, events, Newest}
 use Rattle.model.specs.Delivery.{offeredEntry}
 use Rattle.model.proofs.Aging.{air-append}
@@ -41,6 +41,8 @@ use Rattle.model.proofs.Columns.{choiceBy}
 use Rattle.model.proofs.Refusals.{on-call}
 use Rattle.model.proofs.Invariant.{Tied, refreshed-tied, chosen-lowest}
 use Rattle.model.proofs.Runs.{InRun, run-on}
+use Rattle.label.specs.OnAir.{heard, onAir}
+use Rattle.label.proofs.Windows.{inside}
 
 -- a call that passes its checks has its effect
 passes : (v : View) (c : Call) → NoneHolds (checks v c) → call v c ≡ effect v c
@@ -110,7 +112,7 @@ module _ (m : Making) (k : Control) (period ontime others : ℕ) where
   message = record { id = 1; priority = 0; ontime = ontime; lifetime = 1 }
 
   -- n beats from beat i on
-  pub beats : (i n : ℕ) → List Call
+  unfoldable pub beats : (i n : ℕ) → List Call
   beats i zero = []
   beats i (suc n) = offer (i * period) message ∷ poll (i * period) ∷ beats (suc i) n
 
@@ -335,3 +337,33 @@ module _ (m : Making) (k : Control) (period ontime others : ℕ) where
     beat =
         subst (Beat (suc n) (call taken (poll now) .view))
         (sym (ap (λ (x : Journal). fed x (poll now) (call taken (poll now) .answer)) offered-is ∙ sent-is ∙ gone)) next-beat
+
+  pub run-beats : Steady → (i n : ℕ) (v : View) (j : Journal) → Beat i v j → (i + n) * period ≤ endOfTime → i + n ≤ mostOffers
+      → Beat (i + n) (viewAfter v (beats i n)) (journalOf j (events v (beats i n)))
+  unfolding viewAfter events journalOf beats
+  run-beats s i zero v j b e o =
+      let same : i ≡ i + 0 = omega arith in
+      subst (λ (x : ℕ). Beat x v j) same b
+  run-beats s i (suc n) v j b e o =
+      let same : suc i + n ≡ i + suc n = omega arith in
+      let most = rw (sym same) at e in
+      let some : i ≤ i + suc n = omega arith in
+      subst
+      (λ (x : ℕ). Beat x (viewAfter v (beats i (suc n))) (journalOf j (events v (beats i (suc n))))) same
+      (run-beats s (suc i) n _ _
+      (beat s i (omega (arith, e, mul-le-mul-right period some)) (omega arith) v j b) most (omega arith))
+
+  -- all of it in a stretch
+  pub air-ticks : (w n : ℕ) → n * period < w + period → airIn 0 w (ticks n) ≡ n * ontime
+  unfolding airIn ticks
+  air-ticks w zero h = omega arith
+  air-ticks w (suc n) h =
+      rw (inside 0 w (n * period) (omega arith) (omega (arith, suc-mul n period)))
+      (omega (arith, air-ticks w n (omega (arith, suc-mul n period)), suc-mul n ontime))
+
+  pub heard-ticks : (w n : ℕ) → n * period + ontime ≤ w + period → onAir 0 w (ticks n) ≡ n * ontime
+  unfolding onAir heard ticks
+  heard-ticks w zero h = omega arith
+  heard-ticks w (suc n) h =
+      let one : n * period + ontime - w ≡ 0 = omega (arith, suc-mul n period) in
+      omega (arith, one, heard-ticks w n (omega (arith, suc-mul n period)), suc-mul n ontime)

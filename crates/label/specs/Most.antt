@@ -68,3 +68,18 @@ MostByProfile =
     × MostIs 2 10000 594500 35644000
     × MostIs 3 30000 1800000 108000000
     × MostIs 4 30000 1800000 108000000
+
+-- a run of a profile that reaches the most in its first w µs, admitted and on air
+pub record Reached (profile w : ℕ) : Type 0 where
+  pub run : Run
+  pub its-profile : run .making .profile ≡ profile
+  pub admitted : airIn 0 w (journal run .admissions) ≡ most profile w
+  pub on-air : onAir 0 w (journal run .admissions) ≡ most profile w
+
+-- in a second, a minute and an hour
+abbrev pub ReachedBy : (profile : ℕ) → Type 0
+ReachedBy profile = Reached profile 1000000 × Reached profile 60000000 × Reached profile 3600000000
+
+-- so no figure could be less
+abbrev pub MostReached : Type 0
+MostReached = ReachedBy 1 × ReachedBy 2 × ReachedBy 3 × ReachedBy 4
