@@ -7,9 +7,8 @@ use mathlib.Core.Bool.{true, cond, _&&_}
 use mathlib.Core.List.{List, [], _∷_}
 use native.Mathlib.Omega.{arith}
 use lib.Dec.{leb, ltb}
-use Rattle.rules.specs.Profiles.{limitsOf, mostOntime}
+use Rattle.rules.specs.Profiles.{mostOntime}
 use Rattle.rules.proofs.Cases.{split, on-test, clash}
-use Rattle.rules.proofs.Profiles.{on-limits}
 use Rattle.rules.proofs.Tests.{tested}
 use Rattle.control.specs.Owed.{spare, second, leastGap, claimsCeiling}
 use Rattle.model.specs.declared.Admission.{Admission}
@@ -24,6 +23,7 @@ use Rattle.label.proofs.Longest.{longest}
 use Rattle.label.proofs.Windows.{inside, is-inside, wider, one-more}
 use Rattle.label.proofs.Rows.{Chain, SoFar, so-far, row}
 use Rattle.label.proofs.Restarts.{restarts-keep}
+use Rattle.label.proofs.Pace.{fit}
 
 -- a packet cut in its middle: y µs of it come before a stretch, c before the middle, z behind the stretch
 cut-in-two : (n y c z : ℕ) → y ≤ c → c ≤ n → z ≤ n - c → n - y - z ≡ n - y - (n - c) + (n - c - z)
@@ -156,8 +156,7 @@ heard-as-admitted l h c w most g k from =
 -- a run's packets end before the next
 longest-le : (profile : ℕ) → mostOntime profile ≤ leastGap
 unfolding mostOntime
-longest-le profile =
-    on-limits (λ l. l .ontime ≤ leastGap) profile (omega arith) (omega arith) (omega arith) (omega arith)
+longest-le profile = fit profile .short
 
 ended : (next : ℕ) (a : Admission) (l : List Admission) → a .at + leastGap ≤ next → Apart (a ∷ l) → All Short (a ∷ l)
     → Chain Ends Short next (a ∷ l)

@@ -2,13 +2,14 @@
 use Prim.Native.Nat.{ℕ, zero, suc, _+_, _*_}
 use mathlib.Core.Path.{_≡_, refl}
 use mathlib.Core.List.{List, [], _∷_, _++_}
+use native.Mathlib.Omega.{arith}
 use Rattle.model.specs.declared.Admission.{Admission}
 use Rattle.model.specs.declared.Offer.{Offer}
 use Rattle.model.specs.Calls.{Call, offer, poll}
 use Rattle.model.specs.Journal.{airTime, airIn}
 use Rattle.model.proofs.Computing.{of-runs}
 use Rattle.label.specs.Trailer.{Run, journal}
-use Rattle.label.specs.Restarts.{Started, sentIn, sentInAll}
+use Rattle.label.specs.Restarts.{Started, sentIn, sentInAll, Restarts, WaitsFirst}
 
 -- a packet offered, and a poll at the same time
 sends : (at ontime : ℕ) → List Call
@@ -63,3 +64,19 @@ too-soon = (refl, refl)
 by-themselves : airIn 0 1000000 (record { at = 999999; ontime = 30000 } ∷ record { at = 0; ontime = 30000 } ∷ []) ≡ 60000
 unfolding airIn
 by-themselves = refl
+
+-- with a second of silence they may follow one another, and a host that first polls after a second has it
+abbrev in-order : List Started
+in-order = record { run = at-once; made = 1000000 } ∷ record { run = at-once; made = 0 } ∷ []
+
+follows : Restarts in-order
+unfolding of-runs sends at-once sentInAll
+follows = (((omega arith, tt), tt), ((tt, tt), tt))
+
+patient : Run
+unfolding of-runs sends
+patient = record { making = record { profile = 4; oldway = 0; stamp = 0 }; calls = sends 1000000 4000; ready = refl }
+
+waits-first : WaitsFirst (record { run = patient; made = 1000001 } ∷ record { run = patient; made = 1 } ∷ [])
+unfolding of-runs sends patient sentInAll
+waits-first = ((omega arith, tt), (omega arith, tt), (tt, (omega arith, tt), tt))

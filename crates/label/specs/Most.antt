@@ -47,8 +47,14 @@ pub record Alike (profile : ℕ) : Type 0 where
 -- "admitted in any stretch, its end not counted, at most"; and so much is on air in it, at most, where it is
 -- 25 ms or longer
 pub record AtMost (profile w : ℕ) : Type 0 where
-  pub admitted : (rs : Alike profile) (from : ℕ) → airIn from (from + w) (sentInAll (rs .runs)) ≤ most profile w
-  pub on-air : leastGap ≤ w
+  pub admitted : (r : Run) → r .making .profile ≡ profile
+      → (from : ℕ) → airIn from (from + w) (journal r .admissions) ≤ most profile w
+  pub on-air : leastGap ≤ w → (r : Run) → r .making .profile ≡ profile
+      → (from : ℕ) → onAir from (from + w) (journal r .admissions) ≤ most profile w
+  -- and across restarts
+  pub admitted-in-all : (rs : Alike profile) (from : ℕ)
+      → airIn from (from + w) (sentInAll (rs .runs)) ≤ most profile w
+  pub on-air-in-all : leastGap ≤ w
       → (rs : Alike profile) (from : ℕ) → onAir from (from + w) (sentInAll (rs .runs)) ≤ most profile w
 
 abbrev pub MostHolds : Type 0
