@@ -173,8 +173,9 @@ module _ (m : Making) (k : Control) (period ontime others : ℕ) where
       → turned j (n * period) .time ≡ n * period
   on-time n j s e l u = rw e (omega (arith, s .short))
 
-  module _ (s : Steady) (n : ℕ) (end : n * period ≤ endOfTime) (spent : n < mostOffers) (v : View) (j : Journal) (b : Beat n v j)
-      where
+  -- one more
+  module _ (s : Steady) (n : ℕ) (end : n * period ≤ endOfTime) (spent : n < mostOffers) (v : View) (j : Journal)
+      (b : Beat n v j) where
     abbrev now : ℕ
     now = n * period
 
@@ -182,8 +183,8 @@ module _ (m : Making) (k : Control) (period ontime others : ℕ) where
     unfolding checks goesBack passesEnd stepOf within
     offer-passes =
         let stamp : v .clock .stamp ≡ j .time = b .run .tied .stamp ∙ b .stamped in
-        let accepted : v .counts .accepted ≡ n = ap (λ (c : Counts). c .accepted) (b .run .tied .counted) ∙ b .offered in
-        (
+        let accepted : v .counts .accepted ≡ n =
+        ap (λ (c : Counts). c .accepted) (b .run .tied .counted) ∙ b .offered in (
           ap not (b .run .sounds),
           (
             rw stamp (omega (tested, b .late, b .soon, s .short)),
@@ -247,14 +248,13 @@ module _ (m : Making) (k : Control) (period ontime others : ℕ) where
     poll-passes : NoneHolds (checks taken (poll now))
     unfolding checks goesBack passesEnd stepOf
     poll-passes =
-        let stamp = run-taken .tied .stamp ∙ offered-stamp in
-        (
-      ap not (run-taken .sounds),
-      (
-        rw stamp (omega tested),
-        (rw stamp (omega (tested, run-taken .tied .time, offered-time, end)), tt),
-      ),
-    )
+        let stamp = run-taken .tied .stamp ∙ offered-stamp in (
+          ap not (run-taken .sounds),
+          (
+            rw stamp (omega tested),
+            (rw stamp (omega (tested, run-taken .tied .time, offered-time, end)), tt),
+          ),
+        )
 
     abbrev ready : View
     ready = refreshed taken now

@@ -22,7 +22,7 @@ use Rattle.model.proofs.DeliveryLines.{all-more}
 use Rattle.label.specs.Trailer.{Run, journal}
 use Rattle.label.specs.Restarts.{Started, later, sentInAll, silence, Silent}
 use Rattle.label.specs.OnAir.{onAir}
-use Rattle.label.specs.Most.{stride, byWaits, bySecond, byCeiling, most, Alike, AtMost, MostHolds, MostByProfile}
+use Rattle.label.specs.Most.{stride, byWaits, bySecond, byCeiling, byClaims, most, Alike, AtMost, MostHolds, MostByProfile}
 use Rattle.label.proofs.Second.{adds, none}
 use Rattle.label.proofs.Windows.{inside, is-inside, wider, one-more}
 use Rattle.label.proofs.Rows.{Chain, SoFar, so-far, row}
@@ -76,8 +76,7 @@ module _ (profile from until : ℕ) where
   over next (a ∷ l) c h =
       on-test (λ x. Over next (cond x (a .ontime) 0 + airIn from until l)) (leb from (a .at) && ltb (a .at) until)
       (λ e.
-      let more = over (a .at) l (c .2) (is-inside from until (a .at) e .0) in
-      (
+      let more = over (a .at) l (c .2) (is-inside from until (a .at) e .0) in (
         suc (more .0),
         omega (arith, more .1, c .1, suc-mul (more .0) (k .ontime)),
         omega (
@@ -108,7 +107,8 @@ module _ (profile from w : ℕ) where
       (λ e.
       let i = is-inside from (from + w) (a .at) e in
       let o = over profile from (from + w) (a .at) l (s .1) (i .0) in
-      let some = fits (its .fromend) (its .ontime) (its .leastwait) (o .0) (airIn from (from + w) l) (w - 1) ((w - 1) / stride its)
+      let some =
+      fits (its .fromend) (its .ontime) (its .leastwait) (o .0) (airIn from (from + w) l) (w - 1) ((w - 1) / stride its)
       ((w - 1) % stride its) (fromend-le profile) (div-add-mod' (w - 1) (stride its)) (mod-lt (w - 1) long) (o .1)
       (omega (arith, o .2, i .1)) in
       omega (arith, some, s .0, suc-mul ((w - 1) / stride its) (its .ontime)))
@@ -177,7 +177,7 @@ module _ (profile : ℕ) (rs : Alike profile) where
   unfolding most
   admitted w from =
       on-test (λ x. claimsCeiling profile ≡ x
-      → airIn from (from + w) sent ≤ min (byWaits (limitsOf profile) w) (cond x (min (bySecond w) (byCeiling w)) (bySecond w)))
+      → airIn from (from + w) sent ≤ min (byWaits (limitsOf profile) w) (byClaims x w))
       (claimsCeiling profile)
       (λ e f. omega (arith, by-waits from w, by-second from w, by-ceiling e from w))
       (λ e f. omega (arith, by-waits from w, by-second from w)) refl

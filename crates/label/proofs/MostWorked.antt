@@ -32,8 +32,8 @@ heard-of-both : map (λ from. onAir from 20 (admission 18 5 ∷ admission 8 5 �
 unfolding onAir heard
 heard-of-both = refl
 
--- packets of 4 µs at most and waits of 10. From the end: one in 11 µs; in 12 there is time for 1 µs and a second one, at 11; in 15
--- for two longest ones. From the start: two from 11 on
+-- packets of 4 µs at most and waits of 10. From the end: one in 11 µs; in 12 there is time for 1 µs and a second one, at 11; in
+-- 15 for two longest ones. From the start: two from 11 on
 abbrev limits : (fromend : ℕ) → Limits
 limits fromend = record { ontime = 4; fromend = fromend; leastwait = 10; mostwait = 20 }
 

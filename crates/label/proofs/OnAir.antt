@@ -134,7 +134,8 @@ ceiling-heard l h k from w =
       b .no-further,
       k (from - b .by) (w + b .by),
       one-more (from - b .by) (w + b .by) l,
-      wider (from - b .by) (from + w) (from - b .by) (suc (from - b .by + (w + b .by))) l (omega arith) (omega (arith, b .no-further)),
+      wider (from - b .by) (from + w) (from - b .by) (suc (from - b .by + (w + b .by))) l (omega arith)
+          (omega (arith, b .no-further)),
     )
 
 -- what every stretch of a length admits at most, it is on air at most

@@ -1,5 +1,5 @@
--- A packet is sent only where the gate isn't closed, and no wait is shorter than its profile's shortest. So from each admission to
--- the next there is at least the shortest wait, from where it starts.
+-- A packet is sent only where the gate isn't closed, and no wait is shorter than its profile's shortest. So from each admission
+-- to the next there is at least the shortest wait, from where it starts.
 use Prim.Native.Nat.{ℕ, _+_, _*_, _≤_, _<_}
 use mathlib.Core.Path.{_≡_, refl, ap, sym, subst}
 use mathlib.Core.Bool.{true, false, not}
@@ -88,8 +88,7 @@ module _ (v : View) (j : Journal) (i : Tied v j) (h : SoundView v) (s : Paced (v
   sent-paced l ls e ready =
       let chosen = rw (chosen-lowest v j i, e) at (chosen-queued v h) in
       let is-open = not-true (closed v) (both (not (closed v)) (airAllows (l .packet .ontime) (v .ledger)) ready .0) in
-      subst (λ (c : List Entry). Paced (v .control .profile) (sentOf j (take 1 c) .admissions)) (sym e)
-      (
+      subst (λ (c : List Entry). Paced (v .control .profile) (sentOf j (take 1 c) .admissions)) (sym e) (
         allowed (v .control .profile) (l .packet .ontime) (chosen .2 .order .0 .ontime) .1,
         subst (λ (t : ℕ). Chain (Waits (v .control .profile)) (Allows (v .control .profile)) t (j .admissions)) (i .time)
             (open-paced v (j .admissions) h (i .newest) s is-open),

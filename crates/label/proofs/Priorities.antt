@@ -28,8 +28,8 @@ use Rattle.model.proofs.Fours.{column-change, column-each}
 use Rattle.model.proofs.Displacing.{picked-length, on-room}
 use Rattle.model.proofs.Runs.{runs-are-their-parts}
 use Rattle.label.specs.Trailer.{Run, viewAtEnd, journal, Served}
-use Rattle.label.specs.Priorities.{below, Wait, whenItCame, sinceItCame, its, before, meanwhile, waited, InItsTurn}
-use Rattle.label.specs.Priorities.{WaitsAtMost, WaitsAmongOthers, AmongWarnings}
+use Rattle.label.specs.Priorities.{below, Wait, callsSince, whenItCame, sinceItCame, its, before, meanwhile, waited}
+use Rattle.label.specs.Priorities.{InItsTurn, WaitsAtMost, WaitsAmongOthers, AmongWarnings}
 use Rattle.label.proofs.Rate.{rate}
 
 -- the entries of a column up to an ordinal, each with n and its place in the column at most m
@@ -174,7 +174,8 @@ module _ (q o earlier bound : ℕ) where
             (λ (b : ℕ) (k : List Entry) (c : ℕ) (l : List Packet).
             Placed o (earlier + length (j .admissions) + b) (bound + c) k) q (p .priority) (atFoot (entryOf j p))
             (λ (ps : List Packet). p ∷ ps) (j .columns) (j .offers)
-            (λ b c k l f g. placed-less o _ _ _ _ (column q (j .columns)) (omega (arith, foot-length (entryOf j p) k)) (a .placed))
+            (λ b c k l f g.
+            placed-less o _ _ _ _ (column q (j .columns)) (omega (arith, foot-length (entryOf j p) k)) (a .placed))
             (λ s. placed-foot o _ _ (entryOf j p) (column q (j .columns)) (omega (arith, a .known, ap length s)) (a .placed))
             (a .placed);
         known =
@@ -198,7 +199,8 @@ module _ (q o earlier bound : ℕ) where
           let m = bound + below q (j .offers) in
           record {
             placed =
-                placed-less o (suc (earlier + n) + below q gone) m (earlier + suc n + below q gone) m (column q gone) (omega arith) g;
+                placed-less o (suc (earlier + n) + below q gone) m (earlier + suc n + below q gone) m (column q gone)
+                (omega arith) g;
             known = a .known;
           }
 
@@ -229,9 +231,6 @@ module _ (w : Wait) where
   abbrev bound : ℕ
   bound = length (whenItCame w .admissions) + before w
 
-  abbrev since : List (Call × Answer)
-  since = events (call (viewAtEnd (w .run)) (offer (w .stamp) (w .packet)) .view) (w .during)
-
   came : Ahead q (its w .ordinal) (below q (whenItCame w .offers)) bound (whenItCame w)
   came =
       record {
@@ -254,7 +253,7 @@ module _ (w : Wait) where
 pub in-its-turn : InItsTurn
 in-its-turn w h =
     let a =
-    ahead-on (q w) (its w .ordinal) (below (q w) (whenItCame w .offers)) (bound w) (whenItCame w) (since w) (came w) in
+    ahead-on (q w) (its w .ordinal) (below (q w) (whenItCame w .offers)) (bound w) (whenItCame w) (callsSince w) (came w) in
     omega (arith, placed-among (its w .ordinal) _ _ (its w) (column (q w) (sinceItCame w .columns)) (omega arith) (a .placed) h)
 
 -- the rate, from the offer on

@@ -1,6 +1,6 @@
--- Each profile's figures are reached by a steady sender: in profiles 1 and 2 of longest packets, a stride apart, from a fresh gate
--- on; in profile 4 of eight packets of 3,750 µs a second, which are 30 ms; in profile 3 the same, once 400 samples of an empty
--- channel have raised the duty to its greatest.
+-- Each profile's figures are reached by a steady sender: in profiles 1 and 2 of longest packets, a stride apart, from a fresh
+-- gate on; in profile 4 of eight packets of 3,750 µs a second, which are 30 ms; in profile 3 the same, once 400 samples of an
+-- empty channel have raised the duty to its greatest.
 use Prim.Native.Nat.{ℕ, zero, suc, _+_, _*_, _≤_, _<_}
 use mathlib.Core.Path.{_≡_, refl, ap, sym, _∙_, subst}
 use mathlib.Core.Bool.{true}

@@ -38,7 +38,8 @@ above-the-ceiling : 100 * airTime 0 133333 (sentInAll pair) ≡ 3 * 133333 + 400
 unfolding of-runs sends at-once sentInAll
 above-the-ceiling = refl
 
--- seven packets of 26,001 µs in profile 4, as fast as they go, and then a make: 827,998 µs of silence are not enough
+-- seven packets of 26,001 µs in profile 4, as fast as they go, the last at 172,001, and then a make: 827,998 µs of silence are
+-- not enough
 seven : Run
 unfolding of-runs sends
 seven =
@@ -56,7 +57,7 @@ seven =
     }
 
 too-soon : (airIn 0 1000000 (sentIn (record { run = seven; made = 0 })) ≡ 26001)
-    × (airIn 0 1000000 (sentInAll (record { run = at-once; made = 172001 + 827998 } ∷ record { run = seven; made = 0 } ∷ [])) ≡ 30001)
+    × (airIn 0 1000000 (sentInAll (record { run = at-once; made = 999999 } ∷ record { run = seven; made = 0 } ∷ [])) ≡ 30001)
 unfolding of-runs sends at-once seven sentInAll
 too-soon = (refl, refl)
 

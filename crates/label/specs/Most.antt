@@ -1,8 +1,8 @@
--- The most that a profile admits in a stretch of time, from its constants, and so the most that is heard of it
--- (docs/LABEL.md, "The figures").
+-- The most that a profile admits in a stretch of time, from its constants, and so the most that is heard of
+-- it (docs/LABEL.md, "The figures").
 use Prim.Native.Nat.{ℕ, suc, _+_, _-_, _*_, _/_, _%_, _≤_, min}
 use mathlib.Core.Path.{_≡_}
-use mathlib.Core.Bool.{cond}
+use mathlib.Core.Bool.{Bool, cond}
 use mathlib.Core.List.{List, []}
 use Rattle.rules.specs.declared.Limits.{Limits}
 use Rattle.rules.specs.Profiles.{limitsOf}
@@ -32,11 +32,13 @@ bySecond w = ceilDiv w second * mostInSecond
 abbrev pub byCeiling : (w : ℕ) → ℕ
 byCeiling w = (3 * (w - 1) + spare) / 100
 
+-- by both, where the ceiling is claimed
+abbrev pub byClaims : (claims : Bool) → (w : ℕ) → ℕ
+byClaims claims w = cond claims (min (bySecond w) (byCeiling w)) (bySecond w)
+
 -- the least of what a profile is held to
 unfoldable pub most : (profile w : ℕ) → ℕ
-most profile w =
-    min (byWaits (limitsOf profile) w)
-    (cond (claimsCeiling profile) (min (bySecond w) (byCeiling w)) (bySecond w))
+most profile w = min (byWaits (limitsOf profile) w) (byClaims (claimsCeiling profile) w)
 
 -- runs of one profile, one after the other
 pub record Alike (profile : ℕ) : Type 0 where
@@ -66,8 +68,8 @@ pub record MostIs (profile inSecond inMinute inHour : ℕ) : Type 0 where
   pub in-a-minute : most profile 60000000 ≡ inMinute
   pub in-an-hour : most profile 3600000000 ≡ inHour
 
--- "10 ms", "595 ms", "35.644 s" in profile 1; "10 ms", "594.5 ms", "35.644 s" in profile 2; in profiles 3 and 4
--- the 30 ms of each second are the least
+-- "10 ms", "0.595 s", "35.644 s" in profile 1; "10 ms", "0.5945 s", "35.644 s" in profile 2; in profiles 3
+-- and 4 the 30 ms of each second are the least
 abbrev pub MostByProfile : Type 0
 MostByProfile =
     MostIs 1 10000 595000 35644000

@@ -6,6 +6,7 @@ use mathlib.Core.List.{List, [], _∷_, map}
 use lib.ListN.{length}
 use Rattle.control.specs.Owed.{quiet}
 use Rattle.model.specs.declared.Offer.{Offer}
+use Rattle.model.specs.declared.Answer.{Answer}
 use Rattle.model.specs.declared.Answer.the-variants.{Taken}
 use Rattle.model.specs.Fours.{Four, column}
 use Rattle.model.specs.Calls.{Call, offer}
@@ -30,13 +31,17 @@ pub record Wait : Type 0 where
   pub taken : call (viewAtEnd run) (offer stamp packet) .answer ≡ Taken
   pub during : List Call
 
+-- the calls behind it, with their answers
+abbrev pub callsSince : Wait → List (Call × Answer)
+callsSince w = events (call (viewAtEnd (w .run)) (offer (w .stamp) (w .packet)) .view) (w .during)
+
 -- the book right behind the offer, and at the end
 abbrev pub whenItCame : Wait → Journal
 whenItCame w = fed (journal (w .run)) (offer (w .stamp) (w .packet)) Taken
 
 abbrev pub sinceItCame : Wait → Journal
 sinceItCame w =
-    journalOf (whenItCame w) (events (call (viewAtEnd (w .run)) (offer (w .stamp) (w .packet)) .view) (w .during))
+    journalOf (whenItCame w) (callsSince w)
 
 -- its entry
 abbrev pub its : Wait → Entry
@@ -52,7 +57,8 @@ before w = its w .above + below (w .packet .priority) (whenItCame w .columns)
 
 -- "of lower number, TAKEN while it waits"
 abbrev pub meanwhile : Wait → ℕ
-meanwhile w = below (w .packet .priority) (sinceItCame w .offers) - below (w .packet .priority) (whenItCame w .offers)
+meanwhile w =
+    below (w .packet .priority) (sinceItCame w .offers) - below (w .packet .priority) (whenItCame w .offers)
 
 -- the packets that went since it came
 abbrev pub went : Wait → ℕ
@@ -65,8 +71,7 @@ InItsTurn = (w : Wait) → WaitsStill w → went w ≤ before w + meanwhile w
 -- "polled at least every p, and something waiting at each poll"
 abbrev pub ServedSince : (p : ℕ) → Wait → Type 0
 ServedSince p w =
-    Served p (whenItCame w .time) (whenItCame w)
-    (events (call (viewAtEnd (w .run)) (offer (w .stamp) (w .packet)) .view) (w .during))
+    Served p (whenItCame w .time) (whenItCame w) (callsSince w)
 
 -- the time for which it has waited
 abbrev pub waited : Wait → ℕ
@@ -83,7 +88,8 @@ WaitsAtMost =
 abbrev pub OneEvery : (every : ℕ) → Wait → Type 0
 OneEvery every w = meanwhile w * every ≤ waited w + every
 
--- "(before it + 2) x (floor + p) x every / (every - (floor + p))": the others take floor + p of every such time
+-- "(before it + 2) x (floor + p) x every / (every - (floor + p))": the others take floor + p of every such
+-- time
 abbrev pub amongOthers : (profile p every before : ℕ) → ℕ
 amongOthers profile p every before =
     (before + 2) * (quiet profile + p) * every / (every - (quiet profile + p))
