@@ -14,18 +14,18 @@ use Rattle.rules.proofs.Cases.{split, on-test, clash}
 use Rattle.rules.proofs.Ceiling.{ceil-reaches}
 use Rattle.rules.proofs.Profiles.{fromend-le}
 use Rattle.rules.proofs.Tests.{tested}
-use Rattle.control.specs.Owed.{spare, second, leastGap, claimsCeiling}
+use Rattle.control.specs.Owed.{second, leastGap, claimsCeiling}
 use Rattle.model.specs.declared.Admission.{Admission}
-use Rattle.model.specs.Journal.{airTime, airIn}
+use Rattle.model.specs.Journal.{airIn}
 use Rattle.model.specs.Claims.{All, mostInSecond}
 use Rattle.model.proofs.DeliveryLines.{all-more}
 use Rattle.label.specs.Trailer.{Run, journal}
 use Rattle.label.specs.Restarts.{Started, later, sentInAll, silence, Silent}
 use Rattle.label.specs.OnAir.{onAir}
-use Rattle.label.specs.Most.{stride, byWaits, bySecond, byCeiling, byClaims, most, Alike, AtMost, MostHolds, MostByProfile}
+use Rattle.label.specs.Most.{stride, byWaits, bySecond, byCeiling, byClaims, most, Alike, MostHolds, MostByProfile}
 use Rattle.label.proofs.Second.{adds, none}
 use Rattle.label.proofs.Windows.{inside, is-inside, wider, one-more}
-use Rattle.label.proofs.Rows.{Chain, SoFar, so-far, row}
+use Rattle.label.proofs.Rows.{Chain, so-far, row}
 use Rattle.label.proofs.Restarts.{restarts-keep}
 use Rattle.label.proofs.OnAir.{receiver-hears}
 use Rattle.label.proofs.Pace.{fit, Waits, Allows, Paced, paced}
