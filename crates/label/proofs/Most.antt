@@ -23,7 +23,7 @@ use Rattle.label.specs.Trailer.{Run, journal}
 use Rattle.label.specs.Restarts.{Started, later, sentInAll, silence, Silent}
 use Rattle.label.specs.OnAir.{onAir}
 use Rattle.label.specs.Most.{stride, byWaits, bySecond, byCeiling, byClaims, most, Alike, MostHolds, MostByProfile}
-use Rattle.label.proofs.Second.{adds, none}
+use Rattle.label.proofs.Second.{seconds}
 use Rattle.label.proofs.Windows.{inside, is-inside, wider, one-more}
 use Rattle.label.proofs.Rows.{Chain, so-far, row}
 use Rattle.label.proofs.Restarts.{restarts-keep}
@@ -140,24 +140,11 @@ module _ (profile : ℕ) (rs : Alike profile) where
       (row (Waits profile) (Allows profile) (λ made a next h. omega arith) (λ made a h. h) (paid profile) (rs .runs)
       (rs .restarts) (paced-all profile (rs .runs) (rs .same)))
 
-  in-seconds : (n from : ℕ) → airIn from (from + n * second) sent ≤ n * mostInSecond
-  in-seconds zero from = omega (arith, none from (from + 0) sent (omega arith))
-  in-seconds (suc n) from =
-      let next = from + second in
-      let e : from + suc n * second ≡ next + n * second = omega arith in
-      rw e
-      (omega (
-        arith,
-        restarts-keep (rs .runs) (rs .restarts) .in-any-second from,
-        in-seconds n next,
-        adds from next (next + n * second) sent (omega arith) (omega arith),
-      ))
-
   by-second : (from w : ℕ) → airIn from (from + w) sent ≤ bySecond w
   by-second from w =
       omega (
         arith,
-        in-seconds (ceilDiv w second) from,
+        seconds sent (restarts-keep (rs .runs) (rs .restarts) .in-any-second) (ceilDiv w second) from,
         wider from (from + w) from (from + ceilDiv w second * second) sent (omega arith)
             (omega (arith, ceil-reaches w second (omega arith))),
       )
@@ -228,9 +215,4 @@ most-holds profile w =
 
 pub most-by-profile : MostByProfile
 unfolding most claimsCeiling within
-most-by-profile = (
-  record { in-a-second = refl; in-a-minute = refl; in-an-hour = refl },
-  record { in-a-second = refl; in-a-minute = refl; in-an-hour = refl },
-  record { in-a-second = refl; in-a-minute = refl; in-an-hour = refl },
-  record { in-a-second = refl; in-a-minute = refl; in-an-hour = refl },
-)
+most-by-profile = (refl, refl, refl, refl)
