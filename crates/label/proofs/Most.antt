@@ -20,9 +20,10 @@ use Rattle.model.specs.Journal.{airIn}
 use Rattle.model.specs.Claims.{All, mostInSecond}
 use Rattle.model.proofs.DeliveryLines.{all-more}
 use Rattle.label.specs.Trailer.{Run, journal}
+use Rattle.label.specs.Site.{sum}
 use Rattle.label.specs.Restarts.{Started, later, sentInAll, silence, Silent}
 use Rattle.label.specs.OnAir.{onAir}
-use Rattle.label.specs.Most.{stride, byWaits, bySecond, byCeiling, byClaims, most, Alike, MostHolds, MostByProfile}
+use Rattle.label.specs.Most.{stride, byWaits, bySecond, byCeiling, byClaims, most, Alike, MostHolds, TogetherOnAir, MostByProfile}
 use Rattle.label.proofs.Second.{seconds}
 use Rattle.label.proofs.Windows.{inside, is-inside, wider, one-more}
 use Rattle.label.proofs.Rows.{Chain, so-far, row}
@@ -212,6 +213,16 @@ most-holds profile w =
   where
     heard-of : leastGap ≤ w → (rs : Alike profile) (from : ℕ) → onAir from (from + w) (sentInAll (rs .runs)) ≤ most profile w
     heard-of g rs = receiver-hears (rs .runs) (rs .restarts) .as-admitted w (most profile w) g (admitted profile rs w)
+
+pub together-on-air : TogetherOnAir
+unfolding sum
+together-on-air w g [] = omega arith
+together-on-air w g (t ∷ ts) =
+    omega (
+      arith,
+      together-on-air w g ts,
+      most-holds (t .0 .making .profile) w .on-air g (t .0) refl (t .1),
+    )
 
 pub most-by-profile : MostByProfile
 unfolding most claimsCeiling within

@@ -11,6 +11,7 @@ use Rattle.control.specs.Owed.{spare, second, leastGap, claimsCeiling}
 use Rattle.model.specs.Journal.{airIn}
 use Rattle.model.specs.Claims.{All, mostInSecond}
 use Rattle.label.specs.Trailer.{Run, journal}
+use Rattle.label.specs.Site.{sum}
 use Rattle.label.specs.Restarts.{Started, sentInAll, Restarts}
 use Rattle.label.specs.OnAir.{onAir}
 
@@ -61,6 +62,13 @@ pub record AtMost (profile w : ℕ) : Type 0 where
 
 abbrev pub MostHolds : Type 0
 MostHolds = (profile w : ℕ) → AtMost profile w
+
+-- "n trailers together": each one's most, added up. Each one's stretch starts at a time of its own clock
+abbrev pub TogetherOnAir : Type 0
+TogetherOnAir =
+    (w : ℕ) → leastGap ≤ w → (ts : List (Run × ℕ))
+    → sum (λ (t : Run × ℕ). onAir (t .1) (t .1 + w) (journal (t .0) .admissions)) ts
+    ≤ sum (λ (t : Run × ℕ). most (t .0 .making .profile) w) ts
 
 -- the heads of the label's table: "in any 0.1 s", "0.5 s", "1 s", "1.5 s", "10 s", "minute", "hour"
 abbrev pub stretches : List ℕ
