@@ -23,7 +23,8 @@ use Rattle.label.specs.Trailer.{Run, journal}
 use Rattle.label.specs.Site.{sum}
 use Rattle.label.specs.Restarts.{Started, later, sentInAll, silence, Silent}
 use Rattle.label.specs.OnAir.{onAir}
-use Rattle.label.specs.Most.{stride, byWaits, bySecond, byCeiling, byClaims, most, Alike, MostHolds, TogetherOnAir, MostByProfile}
+use Rattle.label.specs.Most.{stride, byWaits, bySecond, byCeiling, byClaims, most, Alike}
+use Rattle.label.specs.Most.{MostHolds, TogetherOnAir, MostByProfile}
 use Rattle.label.proofs.Second.{seconds}
 use Rattle.label.proofs.Windows.{inside, is-inside, wider, one-more}
 use Rattle.label.proofs.Rows.{Chain, so-far, row}
