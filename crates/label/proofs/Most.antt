@@ -17,7 +17,7 @@ use Rattle.rules.proofs.Tests.{tested}
 use Rattle.control.specs.Owed.{second, leastGap, claimsCeiling}
 use Rattle.model.specs.declared.Admission.{Admission}
 use Rattle.model.specs.Journal.{airIn}
-use Rattle.model.specs.Claims.{All, mostInSecond}
+use Rattle.model.specs.Claims.{All}
 use Rattle.model.proofs.DeliveryLines.{all-more}
 use Rattle.label.specs.Trailer.{Run, journal}
 use Rattle.label.specs.Site.{sum}
