@@ -74,8 +74,8 @@ in-seconds r = seconds (journal r .admissions) (second-of r)
 pub second : Second
 second =
     record {
-      in-a-second = second-of;
-      in-a-minute = λ r from. in-seconds r 60 from;
-      in-an-hour = λ r from. in-seconds r 3600 from;
+      in-a-second = λ r from. omega (arith, second-of r from);
+      in-a-minute = λ r from. omega (arith, in-seconds r 60 from);
+      in-an-hour = λ r from. omega (arith, in-seconds r 3600 from);
       in-seconds = λ n r from. in-seconds r n from;
     }
