@@ -3,7 +3,7 @@
 use crate::fault::Fault;
 use crate::plain::{time_of, WriteWish};
 use crate::plot::PlotWish;
-use crate::show::ShowWish;
+use crate::show::{Form, ShowWish};
 use crate::stream::STANDARD;
 
 const HELP: &str = "\
@@ -136,7 +136,14 @@ pub struct CheckWish {
     pub log: String,
     /// The program's output.
     pub answers: String,
+    /// Whether to say it in JSON.
+    pub json: bool,
+    /// So many wrong answers are told one by one.
+    pub faults: u64,
 }
+
+/// So many wrong answers are told if nobody asks for more.
+const FAULTS_TOLD: u64 = 50;
 
 /// The words of the command line.
 pub fn words() -> Result<Vec<String>, Fault> {
@@ -175,9 +182,9 @@ pub fn parse(words: &[String]) -> Result<Command, Fault> {
         "show" => show(Given::of(
             rest,
             &["--from", "--first"],
-            &["--plain", "--brief"],
+            &["--plain", "--csv", "--brief"],
         )?),
-        "check" => check(Given::of(rest, &[], &[])?),
+        "check" => check(Given::of(rest, &["--faults"], &["--json"])?),
         _ => plot(Given::of(
             rest,
             &["-o", "--run", "--title", "--from", "--to"],
@@ -197,10 +204,15 @@ fn show(mut given: Given) -> Result<Command, Fault> {
     given.at_most(2)?;
     let from = given.number("--from")?.unwrap_or(1);
     let first = given.number("--first")?;
-    let plain = given.has("--plain");
+    let form = match (given.has("--plain"), given.has("--csv")) {
+        (false, false) => Form::Table,
+        (true, false) => Form::Plain,
+        (false, true) => Form::Csv,
+        (true, true) => return Err(usage("only one of --plain and --csv can be there")),
+    };
     let brief = given.has("--brief");
     let (log, answers) = given.log_and_answers()?;
-    if plain && (brief || answers.is_some()) {
+    if form == Form::Plain && (brief || answers.is_some()) {
         return Err(usage("--plain shows the log alone: no --brief, no ANSWERS"));
     }
     Ok(Command::Show(ShowWish {
@@ -209,17 +221,24 @@ fn show(mut given: Given) -> Result<Command, Fault> {
         from,
         first,
         brief,
-        plain,
+        form,
     }))
 }
 
 fn check(mut given: Given) -> Result<Command, Fault> {
     given.at_most(2)?;
+    let json = given.has("--json");
+    let faults = given.number("--faults")?.unwrap_or(FAULTS_TOLD);
     let (log, answers) = given.log_and_answers()?;
     let Some(answers) = answers else {
         return Err(usage("the name of the ANSWERS is missing"));
     };
-    Ok(Command::Check(CheckWish { log, answers }))
+    Ok(Command::Check(CheckWish {
+        log,
+        answers,
+        json,
+        faults,
+    }))
 }
 
 fn plot(mut given: Given) -> Result<Command, Fault> {

@@ -16,9 +16,12 @@
 
 mod args;
 mod check;
+mod check_json;
+mod csv;
 mod fault;
 mod follow;
 mod joined;
+mod json;
 mod output;
 mod plain;
 mod plot;
