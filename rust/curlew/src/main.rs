@@ -9,6 +9,7 @@
 //! - [`output`]: files and standard output, opened in one place
 //! - [`watch`]: how near a run came to what is guaranteed
 //! - [`show`], [`check`], [`plot`]: the other three commands
+//! - [`csv`], [`check_json`]: what programs read, as `docs/TOOLS.md` has it
 //!
 //! A log is read one record at a time, so that its length does not matter.
 
