@@ -8,8 +8,9 @@ use reference::state::State;
 
 use crate::fault::Fault;
 use crate::follow::{follow, Hearer, Row, Run};
-use crate::plain::{way, whole_file};
-use crate::stream::Said;
+use crate::output::Output;
+use crate::plain::way;
+use crate::stream::{refuse_streams, Said};
 use crate::svg::{Anchor, Svg, Trace};
 use crate::text::{count, grouped, span};
 
@@ -34,6 +35,9 @@ pub struct PlotWish {
 /// Draws a run. The log is read twice: for its length, and to draw it.
 pub fn plot(wish: &PlotWish) -> Result<(), Fault> {
     let answers = wish.answers.as_deref();
+    let inputs: Vec<&str> = std::iter::once(wish.log.as_str()).chain(answers).collect();
+    refuse_streams("plot", &inputs)?;
+    let mut output = Output::open(&wish.output, &inputs)?;
     let mut survey = Survey {
         wanted: wish.run,
         found: None,
@@ -65,10 +69,8 @@ pub fn plot(wish: &PlotWish) -> Result<(), Fault> {
     follow("plot, second reading", &wish.log, answers, &mut drawing)?;
     let title = wish.title.clone().unwrap_or_else(|| file_name(&wish.log));
     let picture = drawing.picture(&title, &found);
-    whole_file(&wish.output, |output| {
-        let written = output.write_all(picture.as_bytes());
-        written.map_err(|error| Fault::file(&wish.output, &error))
-    })
+    output.put(picture.as_bytes())?;
+    output.done()
 }
 
 /// The last part of a path.
@@ -107,7 +109,7 @@ impl Hearer for Survey {
                 facts: facts(run),
                 floor: run.book.floor(),
                 hold: run.watch.longest_hold.map_or(0, |(hold, _)| hold),
-                wrong: run.wrong.clone(),
+                wrong: run.wrong.as_ref().map(|wrong| wrong.text.clone()),
             });
         }
         Ok(())
@@ -445,14 +447,17 @@ fn lane(priority: usize) -> (f64, f64) {
 
 impl Hearer for Drawing {
     fn row(&mut self, row: &Row) -> Result<(), Fault> {
-        let Some(run) = row.run.filter(|run| run.number == self.wanted) else {
+        if row.run.is_none_or(|run| run.number != self.wanted) {
             return Ok(());
-        };
+        }
         if matches!(row.said, Said::Refused(_)) {
             return Ok(());
         }
+        let (Some(book), Some(state)) = (row.book, row.state) else {
+            return Ok(());
+        };
         let before = self.now;
-        let now = run.book.time();
+        let now = book.time();
         if now > self.to {
             return Ok(());
         }
@@ -467,14 +472,14 @@ impl Hearer for Drawing {
         if row.record.kind == 1 {
             // A sample that was taken has a load.
             let load = rules::load_of_count(row.record.id, row.record.probes());
-            self.sampled(load.unwrap_or(0), row.state.smoothed);
+            self.sampled(load.unwrap_or(0), state.smoothed);
         }
-        self.controlled(row.state);
+        self.controlled(state);
         let waited = self.lengths.iter().any(|length| *length > 0);
         let last = self.last_sent;
         let sent = row.sent.map(|packet| packet.priority as usize);
         let dropped = row.displaced.map(|packet| packet.priority as usize);
-        for (priority, column) in run.book.columns().iter().enumerate() {
+        for (priority, column) in book.columns().iter().enumerate() {
             let length = column.len() as u64;
             let joined = row.record.kind == 2 && usize::from(row.record.priority) == priority;
             let had = self.lengths[priority] + u64::from(joined);
