@@ -16,12 +16,14 @@ mod args;
 mod check;
 mod fault;
 mod follow;
+mod lives;
 mod plain;
 mod plot;
 mod progress;
 mod show;
 mod stream;
 mod svg;
+mod tally;
 mod text;
 mod watch;
 

@@ -114,18 +114,32 @@ fn a_run_that_is_not_there() {
     assert_eq!(folder.names(), ["empty.log"]);
 }
 
+/// Answers that don't fit make no picture; one that is wrong is where it ends.
 #[test]
-fn wrong_answers_make_no_picture() {
+fn a_picture_ends_where_an_answer_is_wrong() {
     let folder = Folder::new();
     let svg = folder.path("a.svg");
     let out = String::from_utf8(example_bytes("jam", "out")).unwrap();
     let bent = folder.file("bent.out", out.replacen("CLOSED", "SENT 1\nCLOSED", 1));
     let log = example("jam", "log");
     curlew(&["plot", &log, &bent, "-o", &svg]).failed(2, "where END is due");
-    let bent = folder.file("bent.out", out.replacen("SENT 101", "IDLE", 1));
-    curlew(&["plot", &log, &bent, "-o", &svg])
-        .failed(2, "IDLE, but a packet waits; 'curlew check' says more");
     assert_eq!(folder.names(), ["bent.out"]);
+    let bent = folder.file("bent.out", out.replacen("SENT 106", "IDLE", 1));
+    let done = curlew(&["plot", &log, &bent, "-o", &svg]).failed(1, "");
+    let words = "IDLE, but a packet waits; the picture is of what came before";
+    assert!(done.err.contains(words), "{}", done.err);
+    let picture = std::fs::read_to_string(&svg).unwrap();
+    assert_well_formed(&picture);
+    // The packet that is said to be waiting would have been the seventh.
+    assert_eq!(marks(&picture, "stem"), 6);
+    for words in [
+        "Wrong at 6.12 s: record 292 (poll): IDLE, but a packet waits. From there on nothing is known.",
+        r#"class="unknown""#,
+        "6 sent",
+        "waiting when the answers went wrong",
+    ] {
+        assert!(picture.contains(words), "no '{words}'");
+    }
 }
 
 #[test]

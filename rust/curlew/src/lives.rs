@@ -1,0 +1,108 @@
+//! Packets followed from their offers on: which ones left with a call, and how.
+//! It is seen from the run's book, by what is no longer in its columns.
+
+use std::collections::VecDeque;
+
+use reference::book::Entry;
+
+use crate::follow::Row;
+use crate::stream::Said;
+
+/// How a packet left.
+#[derive(Clone, Copy, Debug, PartialEq, Eq)]
+pub enum How {
+    /// A poll sent it.
+    Sent,
+    /// Its lifetime was over, as an offer or a poll found.
+    Expired,
+    /// A newer one of its priority displaced it.
+    Displaced,
+}
+
+/// A packet that left.
+#[derive(Clone, Copy, Debug, PartialEq, Eq)]
+pub struct Left {
+    /// The packet in the book.
+    pub entry: Entry,
+    /// How it left.
+    pub how: How,
+}
+
+/// The packets that wait.
+#[derive(Default)]
+pub struct Lives {
+    columns: [VecDeque<Entry>; 4],
+}
+
+impl Lives {
+    /// What left with a call. Each call of the log must be shown in its turn.
+    pub fn see(&mut self, row: &Row) -> Vec<Left> {
+        if row.record.kind == 0 {
+            self.forget();
+        }
+        let Some(run) = row.run else {
+            return Vec::new();
+        };
+        if run.wrong.is_some() {
+            self.forget();
+            return Vec::new();
+        }
+        if matches!(row.said, Said::Refused(_)) || !matches!(row.record.kind, 2 | 3) {
+            return Vec::new();
+        }
+        let (mut sent, mut displaced) = (row.sent, row.displaced);
+        let mut left = Vec::new();
+        for (before, after) in self.columns.iter_mut().zip(run.book.columns()) {
+            // No two entries are equal, and new ones come last.
+            if before.len() == after.len() && before.back() == after.back() {
+                continue;
+            }
+            let mut stays = after.iter().peekable();
+            for entry in before.drain(..) {
+                if stays.next_if(|stays| **stays == entry).is_some() {
+                    continue;
+                }
+                let is = |packet: &mut _| *packet == entry.packet;
+                let how = if sent.take_if(is).is_some() {
+                    How::Sent
+                } else if displaced.take_if(is).is_some() {
+                    How::Displaced
+                } else {
+                    How::Expired
+                };
+                left.push(Left { entry, how });
+            }
+            before.extend(after);
+        }
+        left
+    }
+
+    /// The packets that wait, in turn.
+    pub fn waiting(&self) -> impl Iterator<Item = &Entry> {
+        self.columns.iter().flatten()
+    }
+
+    /// How many wait of each priority.
+    pub fn lengths(&self) -> [u64; 4] {
+        [0, 1, 2, 3].map(|priority| self.columns[priority].len() as u64)
+    }
+
+    fn forget(&mut self) {
+        self.columns.iter_mut().for_each(VecDeque::clear);
+    }
+}
+
+/// The time of a row's call. A refused call moves no clock; where its stamp was
+/// not what it was refused for, it still says when it was made.
+pub fn moment(row: &Row) -> u64 {
+    let Some(run) = row.run else {
+        return 0;
+    };
+    let now = run.book.time();
+    match row.said {
+        Said::Refused(4..=8 | 11) => {
+            now + u64::from(row.record.stamp.wrapping_sub(run.book.stamp()))
+        }
+        _ => now,
+    }
+}
