@@ -1,12 +1,11 @@
 //! `curlew check`: the verdict over a log and its answers.
 
-use std::io::{self, BufWriter, StdoutLock, Write};
-
 use reference::book::STRETCH_MOST;
 
 use crate::args::CheckWish;
 use crate::fault::Fault;
 use crate::follow::{follow, refusal_name, size, Hearer, Row, Run};
+use crate::output::Output;
 use crate::text::{count, grouped, seconds, span};
 use crate::watch::Wait;
 
@@ -16,7 +15,7 @@ const TOLD_IN_FULL: u64 = 20;
 /// Checks a log and its answers.
 pub fn check(wish: &CheckWish) -> Result<(), Fault> {
     let mut verdict = Verdict {
-        output: BufWriter::new(io::stdout().lock()),
+        output: Output::standard(&[&wish.log, &wish.answers])?,
         broken: 0,
         kept: 0,
         without_ceiling: false,
@@ -27,11 +26,11 @@ pub fn check(wish: &CheckWish) -> Result<(), Fault> {
         let more = count(verdict.kept - TOLD_IN_FULL, "more run");
         writeln!(out, "{more} KEPT, not told one by one.\n")?;
     }
-    if let Some(text) = &whole.loose {
-        writeln!(out, "Outside of all runs, NOT KEPT: {text}\n")?;
+    if let Some(wrong) = &whole.first_loose {
+        writeln!(out, "Outside of all runs, NOT KEPT: {}\n", wrong.text)?;
     }
     writeln!(out, "{}: {}, answers fit.", wish.log, size(&whole))?;
-    let kept = verdict.broken == 0 && whole.loose.is_none();
+    let kept = verdict.broken == 0 && whole.loose == 0;
     if kept && whole.runs == 0 {
         writeln!(out, "Verdict: KEPT, but there was no run to look at.")?;
     } else if kept && verdict.without_ceiling {
@@ -50,7 +49,7 @@ pub fn check(wish: &CheckWish) -> Result<(), Fault> {
             "Verdict: NOT KEPT: an answer outside of all runs is wrong."
         )?;
     }
-    out.flush()?;
+    verdict.output.done()?;
     if kept {
         Ok(())
     } else {
@@ -59,24 +58,24 @@ pub fn check(wish: &CheckWish) -> Result<(), Fault> {
 }
 
 /// The verdict on its way to standard output.
-struct Verdict<'a> {
-    output: BufWriter<StdoutLock<'a>>,
+struct Verdict {
+    output: Output,
     broken: u64,
     kept: u64,
     without_ceiling: bool,
 }
 
-impl Hearer for Verdict<'_> {
+impl Hearer for Verdict {
     fn row(&mut self, _row: &Row) -> Result<(), Fault> {
         Ok(())
     }
 
     fn run_over(&mut self, run: &Run) -> Result<(), Fault> {
         let out = &mut self.output;
-        if let Some(text) = &run.wrong {
+        if let Some(wrong) = &run.wrong {
             self.broken += 1;
             writeln!(out, "Run {}: {}", grouped(run.number), run.title())?;
-            writeln!(out, "  NOT KEPT   {text}\n")?;
+            writeln!(out, "  NOT KEPT   {}\n", wrong.text)?;
             return Ok(());
         }
         self.kept += 1;

@@ -4,8 +4,10 @@
 use std::collections::VecDeque;
 
 use reference::book::Entry;
+use reference::calls::{BAD_KIND, CLOCK_BACK, CLOCK_END};
 
 use crate::follow::Row;
+use crate::joined::HALF_TURN;
 use crate::stream::Said;
 
 /// How a packet left.
@@ -40,19 +42,16 @@ impl Lives {
         if row.record.kind == 0 {
             self.forget();
         }
-        let Some(run) = row.run else {
-            return Vec::new();
-        };
-        if run.wrong.is_some() {
+        let Some(book) = row.book else {
             self.forget();
             return Vec::new();
-        }
+        };
         if matches!(row.said, Said::Refused(_)) || !matches!(row.record.kind, 2 | 3) {
             return Vec::new();
         }
         let (mut sent, mut displaced) = (row.sent, row.displaced);
         let mut left = Vec::new();
-        for (before, after) in self.columns.iter_mut().zip(run.book.columns()) {
+        for (before, after) in self.columns.iter_mut().zip(book.columns()) {
             // No two entries are equal, and new ones come last.
             if before.len() == after.len() && before.back() == after.back() {
                 continue;
@@ -92,17 +91,17 @@ impl Lives {
     }
 }
 
-/// The time of a row's call. A refused call moves no clock; where its stamp was
-/// not what it was refused for, it still says when it was made.
+/// The time of a row's call in its run. A refused call moves no clock, but its
+/// stamp says when it was made, unless it was refused for that; and so does the
+/// stamp of a call whose answer is wrong.
 pub fn moment(row: &Row) -> u64 {
     let Some(run) = row.run else {
         return 0;
     };
-    let now = run.book.time();
+    let step = row.record.stamp.wrapping_sub(run.book.stamp());
     match row.said {
-        Said::Refused(4..=8 | 11) => {
-            now + u64::from(row.record.stamp.wrapping_sub(run.book.stamp()))
-        }
-        _ => now,
+        Said::Refused(CLOCK_BACK | CLOCK_END | BAD_KIND) => run.book.time(),
+        _ if step < HALF_TURN => run.book.time() + u64::from(step),
+        _ => run.book.time(),
     }
 }

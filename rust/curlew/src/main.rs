@@ -5,8 +5,11 @@
 //! - [`plain`]: the plain text form of a log, and `write`
 //! - [`stream`]: records and answers, read one at a time
 //! - [`follow`]: a log followed run by run, with the book of each run
+//! - [`joined`]: the runs of a log one after the other, on one clock
+//! - [`output`]: files and standard output, opened in one place
 //! - [`watch`]: how near a run came to what is guaranteed
-//! - [`show`], [`check`], [`plot`]: the other three commands
+//! - [`lives`], [`tally`]: packets followed from offer to end, and counted
+//! - [`show`], [`check`], [`plot`]: the other commands
 //!
 //! A log is read one record at a time, so that its length does not matter.
 
@@ -16,7 +19,9 @@ mod args;
 mod check;
 mod fault;
 mod follow;
+mod joined;
 mod lives;
+mod output;
 mod plain;
 mod plot;
 mod progress;

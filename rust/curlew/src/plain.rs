@@ -1,15 +1,15 @@
 //! The plain text form of a log: one call a line. `curlew write` turns it into
 //! records, and `curlew show --plain` turns records back into it.
 
-use std::fs::File;
-use std::io::{self, BufRead, BufWriter, Write};
+use std::io::{self, BufRead};
 
 use reference::log::{Record, RECORD_BYTES};
 use reference::rules::{NEW_WAY, OLD_WAY, PROBES};
 
 use crate::fault::Fault;
+use crate::output::Output;
 use crate::progress::Progress;
-use crate::stream::{open, STANDARD};
+use crate::stream::{open, shown_name};
 use crate::text::quoted;
 
 /// What `curlew write` was asked for.
@@ -37,45 +37,13 @@ const LONGEST_LINE: u64 = 4_096;
 /// text with an error leaves what was there.
 pub fn write(wish: &WriteWish) -> Result<(), Fault> {
     let mut input = open(&wish.input)?;
-    let name = if wish.input == STANDARD {
-        "standard input"
-    } else {
-        &wish.input
-    };
-    if wish.output == STANDARD {
-        let mut output = BufWriter::new(io::stdout().lock());
-        records(&mut input, name, &mut output)?;
-        return Ok(output.flush()?);
-    }
-    whole_file(&wish.output, |output| records(&mut input, name, output))
-}
-
-/// Writes a file that comes to be only as a whole.
-pub fn whole_file(
-    name: &str,
-    write: impl FnOnce(&mut dyn Write) -> Result<(), Fault>,
-) -> Result<(), Fault> {
-    let cannot = |error: io::Error| Fault::file(name, &error);
-    let there = std::fs::metadata(name);
-    if there.is_ok_and(|data| !data.is_file()) {
-        // A folder says so by itself; a device or a pipe takes what comes.
-        let mut output = BufWriter::new(File::create(name).map_err(cannot)?);
-        write(&mut output)?;
-        return output.flush().map_err(cannot);
-    }
-    let half = format!("{name}.half");
-    let mut output = BufWriter::new(File::create(&half).map_err(cannot)?);
-    let written = write(&mut output)
-        .and_then(|()| output.flush().map_err(cannot))
-        .and_then(|()| std::fs::rename(&half, name).map_err(cannot));
-    if written.is_err() {
-        let _ = std::fs::remove_file(&half); // it may not be there any more
-    }
-    written
+    let mut output = Output::open(&wish.output, &[&wish.input])?;
+    records(&mut input, &shown_name(&wish.input), &mut output)?;
+    output.done()
 }
 
 /// Writes the records of a plain text.
-fn records(input: &mut dyn BufRead, name: &str, output: &mut dyn Write) -> Result<(), Fault> {
+fn records(input: &mut dyn BufRead, name: &str, output: &mut Output) -> Result<(), Fault> {
     let mut reader = Reader::default();
     let mut progress = Progress::new("write", None);
     let mut bytes = Vec::new();
@@ -84,14 +52,14 @@ fn records(input: &mut dyn BufRead, name: &str, output: &mut dyn Write) -> Resul
         bytes.clear();
         let mut part = io::Read::take(&mut *input, LONGEST_LINE);
         let got = part.read_until(b'\n', &mut bytes);
-        let got = got.map_err(|error| Fault::file(name, &error))?;
+        let got = got.map_err(|error| Fault::reading(name, &error))?;
         if got == 0 {
             break;
         }
         let read = line_text(&bytes).and_then(|text| reader.line(text));
         match read {
             Ok(Some(part)) => {
-                output.write_all(&part)?;
+                output.put(&part)?;
                 written += 1;
                 progress.at(written);
             }

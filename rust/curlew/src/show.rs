@@ -1,13 +1,14 @@
 //! `curlew show`: a log as a table, or in the plain form.
 
 use std::fmt::Display;
-use std::io::{self, BufWriter, StdoutLock, Write};
 
+use reference::book::Book;
 use reference::log::Record;
 use reference::state::{Counts, State};
 
 use crate::fault::Fault;
 use crate::follow::{follow, refusal_name, Hearer, Row, Run};
+use crate::output::Output;
 use crate::plain;
 use crate::progress::Progress;
 use crate::stream::{whole, Next, Records, Said};
@@ -34,7 +35,9 @@ pub fn show(wish: &ShowWish) -> Result<(), Fault> {
     if wish.plain {
         return show_plain(wish);
     }
-    let output = BufWriter::new(io::stdout().lock());
+    let inputs: Vec<&str> =
+        (std::iter::once(wish.log.as_str()).chain(wish.answers.as_deref())).collect();
+    let output = Output::standard(&inputs)?;
     let mut table = Table {
         wish,
         output,
@@ -53,7 +56,7 @@ pub fn show(wish: &ShowWish) -> Result<(), Fault> {
         let bytes = plain::hex(&whole.left_over);
         writeln!(table.output, "  TORN  left over: {bytes}")?;
     }
-    table.output.flush()?;
+    table.output.done()?;
     if table.wrong {
         return Err(Fault::NotKept);
     }
@@ -63,7 +66,7 @@ pub fn show(wish: &ShowWish) -> Result<(), Fault> {
 /// The log in the plain form.
 fn show_plain(wish: &ShowWish) -> Result<(), Fault> {
     let mut records = Records::open(&wish.log)?;
-    let mut output = BufWriter::new(io::stdout().lock());
+    let mut output = Output::standard(&[&wish.log])?;
     let mut progress = Progress::new("show", whole(&wish.log));
     let most = wish.first.unwrap_or(u64::MAX);
     let shows = |number: u64| number >= wish.from && number - wish.from < most;
@@ -82,13 +85,13 @@ fn show_plain(wish: &ShowWish) -> Result<(), Fault> {
         }
         progress.at(number);
     }
-    Ok(output.flush()?)
+    output.done()
 }
 
 /// The table on its way to standard output.
 struct Table<'a> {
     wish: &'a ShowWish,
-    output: BufWriter<StdoutLock<'a>>,
+    output: Output,
     wrong: bool,
     shown: u64,
     more: u64,
@@ -136,12 +139,12 @@ impl Hearer for Table<'_> {
         self.shown += 1;
         let (mut time, mut waiting, mut air) = (String::new(), String::new(), String::new());
         let mut packets = four([""; 4]);
-        if let Some(run) = row.run {
-            time = seconds(run.book.time());
-            (packets, waiting, air) = match run.wrong {
-                None => (counts(run), lengths(run), span(run.book.on_air())),
-                Some(_) => (four(["?"; 4]), "? ? ? ?".to_string(), "?".to_string()),
-            };
+        if let Some(book) = row.book {
+            time = seconds(book.time());
+            (packets, waiting, air) = (counts(book), lengths(book), span(book.on_air()));
+        } else if row.run.is_some() {
+            (time, packets) = ("?".to_string(), four(["?"; 4]));
+            (waiting, air) = ("? ? ? ?".to_string(), "?".to_string());
         }
         let line = format!(
             "{:>6}  {:>13}  {:<45}  {:<26}  {packets}  {:^9}  {air:>9}  {}",
@@ -150,7 +153,7 @@ impl Hearer for Table<'_> {
             call(&row.record),
             answer(row),
             waiting,
-            control(row.state)
+            row.state.map_or("?".to_string(), control)
         );
         let line = line.trim_end();
         match row.wrong {
@@ -177,19 +180,19 @@ fn four<T: Display>([accepted, sent, expired, displaced]: [T; 4]) -> String {
 }
 
 /// How many packets were accepted, sent, expired and displaced.
-fn counts(run: &Run) -> String {
+fn counts(book: &Book) -> String {
     let Counts {
         accepted,
         sent,
         expired,
         displaced,
-    } = run.book.counts();
+    } = book.counts();
     four([accepted, sent, expired, displaced].map(grouped))
 }
 
 /// How many wait in each queue.
-fn lengths(run: &Run) -> String {
-    let lengths: Vec<String> = (run.book.columns().iter())
+fn lengths(book: &Book) -> String {
+    let lengths: Vec<String> = (book.columns().iter())
         .map(|column| column.len().to_string())
         .collect();
     lengths.join(" ")
@@ -229,7 +232,12 @@ fn answer(row: &Row) -> String {
     match (row.said, row.displaced) {
         (Said::Refused(number), _) => format!("REFUSED {number} {}", refusal_name(number)),
         (said, Some(packet)) => format!("{}, displaced {}", said.line(), packet.id),
-        (Said::Closed(left), None) if wait_left(row.state).is_some_and(|wait| left > wait) => {
+        (Said::Closed(left), None)
+            if row
+                .state
+                .and_then(wait_left)
+                .is_some_and(|wait| left > wait) =>
+        {
             format!("{}, second full", row.said.line())
         }
         (said, None) => said.line(),

@@ -1,14 +1,13 @@
 //! Numbers, times and words as people read them.
 
-use std::io::{self, Write};
-
 use crate::fault::Fault;
+use crate::output::Output;
 
 /// Writes a whole text to standard output.
 pub fn say(text: &str) -> Result<(), Fault> {
-    let mut output = io::stdout().lock();
-    output.write_all(text.as_bytes())?;
-    Ok(output.flush()?)
+    let mut output = Output::standard(&[])?;
+    output.put(text.as_bytes())?;
+    output.done()
 }
 
 /// A number with a comma after each three digits: 1,000,000.

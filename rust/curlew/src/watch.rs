@@ -78,6 +78,8 @@ pub struct Watch {
     pub samples: u64,
     /// Accepted polls.
     pub polls: u64,
+    /// The on-times admitted, all together, in µs.
+    pub air: u64,
     /// Refusals, by number; the last place has those of no known number.
     pub refusals: [u64; 13],
     /// The window whose slack is the smallest.
@@ -178,6 +180,7 @@ impl Watch {
 
     /// An admission now.
     fn admitted(&mut self, now: u64, ontime: u32) {
+        self.air += u64::from(ontime);
         let tightest = self.tightest_with(now, ontime);
         self.tightest = Some(tightest);
         if self

@@ -61,13 +61,10 @@ impl Course {
         let Some((since, value)) = self.held else {
             return;
         };
-        let Frame {
-            from, known: to, ..
-        } = self.frame;
-        if until < from || since > to {
+        let (since, until) = (since.max(self.frame.from), until.min(self.frame.known));
+        if since > until {
             return;
         }
-        let (since, until) = (since.max(from), until.min(to));
         if value > self.most {
             self.cuts.at(self.frame.x(since));
         }

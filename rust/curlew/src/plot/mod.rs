@@ -22,9 +22,11 @@ use reference::rules;
 
 use crate::fault::Fault;
 use crate::follow::{follow, Hearer, Row, Run};
+use crate::joined::HALF_TURN;
 use crate::lives::{moment, How, Lives};
-use crate::plain::{way, whole_file};
-use crate::stream::Said;
+use crate::output::Output;
+use crate::plain::way;
+use crate::stream::{refuse_streams, Said};
 use crate::svg::{Anchor, Svg};
 use crate::tally::{place, Tally};
 use crate::text::{count, grouped, span};
@@ -61,6 +63,9 @@ pub struct PlotWish {
 /// Draws a run. The log is read twice: for its length, and to draw it.
 pub fn plot(wish: &PlotWish) -> Result<(), Fault> {
     let answers = wish.answers.as_deref();
+    let inputs: Vec<&str> = std::iter::once(wish.log.as_str()).chain(answers).collect();
+    refuse_streams("plot", &inputs)?;
+    let mut output = Output::open(&wish.output, &inputs)?;
     let mut search = Search {
         wanted: wish.run,
         survey: Survey::new(wish.from, wish.to),
@@ -86,10 +91,8 @@ pub fn plot(wish: &PlotWish) -> Result<(), Fault> {
     follow("plot, second reading", &wish.log, answers, &mut drawing)?;
     let title = wish.title.clone().unwrap_or_else(|| file_name(&wish.log));
     let picture = drawing.picture(&title).whole(&title, STYLE);
-    whole_file(&wish.output, |output| {
-        let written = output.write_all(picture.as_bytes());
-        written.map_err(|error| Fault::file(&wish.output, &error))
-    })?;
+    output.put(picture.as_bytes())?;
+    output.done()?;
     match found.wrong {
         None => Ok(()),
         Some((_, text)) => {
@@ -109,6 +112,7 @@ pub fn file_name(path: &str) -> String {
 pub struct Survey {
     from: u64,
     to: u64,
+    stamp: u32,
     found: Option<Found>,
 }
 
@@ -135,6 +139,7 @@ impl Survey {
         Survey {
             from: from.unwrap_or(0),
             to: to.unwrap_or(u64::MAX),
+            stamp: 0,
             found: None,
         }
     }
@@ -152,14 +157,16 @@ impl Survey {
             hold: 0,
             wrong: None,
         });
-        if found.wrong.is_none() {
-            let wrong = row.wrong.map(|text| (run.book.time(), text.to_string()));
-            found.wrong = wrong;
-            found.time = run.book.time();
-            found.hold = run.watch.longest_hold.map_or(0, |(hold, _)| hold);
-        } else {
-            found.time = found.time.max(row.state.time);
+        found.time = match &found.wrong {
+            None if row.wrong.is_none() => run.book.time(),
+            None => moment(row),
+            Some(_) => later(found.time, self.stamp, row.record.stamp),
+        };
+        self.stamp = row.record.stamp;
+        if let (None, Some(text)) = (&found.wrong, row.wrong) {
+            found.wrong = Some((found.time, text.to_string()));
         }
+        found.hold = run.watch.longest_hold.map_or(0, |(hold, _)| hold);
         if (self.from..=self.to).contains(&moment(row)) {
             match row.record.kind {
                 1 => found.samples += 1,
@@ -182,6 +189,15 @@ impl Found {
         let to = to.unwrap_or(self.time).min(self.time).max(1);
         let known = self.wrong.as_ref().map_or(to, |(at, _)| to.min(*at));
         (from < to).then_some(Frame { from, to, known })
+    }
+}
+
+/// The time at a stamp, from the time at the one before: where nothing else is
+/// known, a step back is no step.
+fn later(time: u64, before: u32, stamp: u32) -> u64 {
+    match stamp.wrapping_sub(before) {
+        step if step < HALF_TURN => time + u64::from(step),
+        _ => time,
     }
 }
 
@@ -242,10 +258,10 @@ impl Drawing {
     }
 
     /// The next call of the run.
-    pub fn see(&mut self, run: &Run, row: &Row) {
-        if run.wrong.is_some() {
+    pub fn see(&mut self, row: &Row) {
+        let Some(state) = row.state else {
             return;
-        }
+        };
         let now = moment(row);
         if now > self.frame.to {
             return;
@@ -269,10 +285,9 @@ impl Drawing {
         if row.record.kind == 1 {
             // A sample that was taken has a load.
             let load = rules::load_of_count(row.record.id, row.record.probes());
-            self.load
-                .sampled(now, load.unwrap_or(0), row.state.smoothed);
+            self.load.sampled(now, load.unwrap_or(0), state.smoothed);
         }
-        self.control.now(now, row.state);
+        self.control.now(now, state);
         for (priority, length) in self.lives.lengths().into_iter().enumerate() {
             self.lanes.now(now, priority, length);
         }
@@ -426,14 +441,14 @@ impl Drawing {
             span(*at)
         );
         let text = fitted(&text, 12.0, (RIGHT - LEFT));
-        svg.text((MARGIN, 146.0), Anchor::Start, "limit-name", &text);
+        svg.text((MARGIN, 142.0), Anchor::Start, "limit-name", &text);
     }
 }
 
 impl Hearer for Drawing {
     fn row(&mut self, row: &Row) -> Result<(), Fault> {
-        if let Some(run) = row.run.filter(|run| run.number == self.found.number) {
-            self.see(run, row);
+        if row.run.is_some_and(|run| run.number == self.found.number) {
+            self.see(row);
         }
         Ok(())
     }

@@ -130,12 +130,12 @@ fn a_picture_ends_where_an_answer_is_wrong() {
     assert!(done.err.contains(words), "{}", done.err);
     let picture = std::fs::read_to_string(&svg).unwrap();
     assert_well_formed(&picture);
-    // The packet that is said to be waiting would have been the seventh.
-    assert_eq!(marks(&picture, "stem"), 6);
+    // The packet that is not sent would have been the tenth.
+    assert_eq!(marks(&picture, "stem"), 9);
     for words in [
-        "Wrong at 6.12 s: record 292 (poll): IDLE, but a packet waits. From there on nothing is known.",
+        "Wrong at 9.19 s: record 444 (poll at 10190000): IDLE, but a packet waits. From there on nothing is known.",
         r#"class="unknown""#,
-        "6 sent",
+        "9 sent",
         "waiting when the answers went wrong",
     ] {
         assert!(picture.contains(words), "no '{words}'");

@@ -95,6 +95,6 @@ fn files_that_are_not_there() {
     curlew(&["plot", &none, "-o", &svg]).failed(2, "none: there is no such file");
     curlew(&["show", &folder.path(".")]).failed(2, "it is a folder");
     let far = folder.path("no/such/a.svg");
-    curlew(&["plot", &log, "-o", &far]).failed(2, "there is no such file");
+    curlew(&["plot", &log, "-o", &far]).failed(2, "a.svg: there is no such folder, ");
     assert_eq!(folder.names(), Vec::<String>::new());
 }
