@@ -14,7 +14,7 @@ use crate::joined::Joined;
 use crate::plain::way;
 use crate::progress::Progress;
 use crate::stream::{refuse_one_pipe, whole, Answers, Next, Records, Said};
-use crate::text::{count, grouped, seconds, span};
+use crate::text::{count, grouped, moment, span};
 use crate::watch::Watch;
 
 /// One run: a make that was not refused, and the calls up to the next make.
@@ -86,7 +86,6 @@ pub struct Follower {
     /// Whether no answer since the last make was wrong.
     known: bool,
     loose: u64,
-    first_loose: Option<Wrong>,
     joined: Joined,
 }
 
@@ -114,8 +113,6 @@ pub struct Whole {
     pub left_over: Vec<u8>,
     /// How many answers outside of all runs were wrong.
     pub loose: u64,
-    /// The first of them.
-    pub first_loose: Option<Wrong>,
     /// All runs together.
     pub joined: Joined,
 }
@@ -186,7 +183,6 @@ impl Follower {
             run: None,
             known: true,
             loose: 0,
-            first_loose: None,
             joined: Joined::default(),
         }
     }
@@ -199,7 +195,6 @@ impl Follower {
             ended: left_over.is_some(),
             left_over: left_over.unwrap_or_default(),
             loose: self.loose,
-            first_loose: self.first_loose,
             joined: self.joined,
         }
     }
@@ -294,12 +289,12 @@ impl Follower {
     fn note(&mut self, record: u64, text: &str) {
         self.known = false;
         self.joined.lost();
-        let (faults, first) = match &mut self.run {
-            Some(run) => (&mut run.faults, &mut run.wrong),
-            None => (&mut self.loose, &mut self.first_loose),
+        let Some(run) = &mut self.run else {
+            self.loose += 1;
+            return;
         };
-        *faults += 1;
-        first.get_or_insert_with(|| Wrong {
+        run.faults += 1;
+        run.wrong.get_or_insert_with(|| Wrong {
             record,
             text: text.to_string(),
         });
@@ -414,9 +409,9 @@ impl Run {
                 )
             }
             (text, Some(_)) if text.starts_with("second") => format!(
-                "second: {} admitted in the second up to {} s, where {} is allowed",
+                "second: {} admitted in the second up to {}, where {} is allowed",
                 span(self.book.on_air()),
-                seconds(self.book.time()),
+                moment(self.book.time()),
                 span(STRETCH_MOST)
             ),
             (text, Some(_)) if text.starts_with("gap") => format!(
@@ -428,13 +423,17 @@ impl Run {
         }
     }
 
-    /// What the run was: its records, profile and length.
+    /// What the run was: its records, profile and length, as far as it is known.
     pub fn title(&self) -> String {
+        let known = match self.wrong {
+            None => "",
+            Some(_) => " to the last right answer",
+        };
         format!(
-            "profile {}{}, {} s, records {} to {}",
+            "profile {}{}, {}{known}, records {} to {}",
             self.profile,
             way(self.oldway),
-            seconds(self.book.time()),
+            moment(self.book.time()),
             grouped(self.first),
             grouped(self.last)
         )

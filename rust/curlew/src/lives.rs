@@ -5,6 +5,7 @@ use std::collections::VecDeque;
 
 use reference::book::Entry;
 use reference::calls::{BAD_KIND, CLOCK_BACK, CLOCK_END};
+use reference::state::Packet;
 
 use crate::follow::Row;
 use crate::joined::HALF_TURN;
@@ -21,11 +22,20 @@ pub enum How {
     Displaced,
 }
 
+/// A packet that was taken.
+#[derive(Clone, Copy, Debug, PartialEq, Eq)]
+pub struct Life {
+    /// The packet in the book.
+    pub entry: Entry,
+    /// The number of its offer's record.
+    pub record: u64,
+}
+
 /// A packet that left.
 #[derive(Clone, Copy, Debug, PartialEq, Eq)]
 pub struct Left {
-    /// The packet in the book.
-    pub entry: Entry,
+    /// The packet.
+    pub life: Life,
     /// How it left.
     pub how: How,
 }
@@ -33,7 +43,7 @@ pub struct Left {
 /// The packets that wait.
 #[derive(Default)]
 pub struct Lives {
-    columns: [VecDeque<Entry>; 4],
+    columns: [VecDeque<Life>; 4],
 }
 
 impl Lives {
@@ -52,32 +62,31 @@ impl Lives {
         let (mut sent, mut displaced) = (row.sent, row.displaced);
         let mut left = Vec::new();
         for (before, after) in self.columns.iter_mut().zip(book.columns()) {
-            // No two entries are equal, and new ones come last.
-            if before.len() == after.len() && before.back() == after.back() {
+            // No two entries are equal, and a new one comes last.
+            let newest = before.back().map(|life| life.entry);
+            if before.len() == after.len() && newest.as_ref() == after.back() {
                 continue;
             }
             let mut stays = after.iter().peekable();
-            for entry in before.drain(..) {
-                if stays.next_if(|stays| **stays == entry).is_some() {
-                    continue;
+            before.retain(|life| {
+                let stays = stays.next_if(|stays| **stays == life.entry).is_some();
+                if !stays {
+                    let how = how(life, &mut sent, &mut displaced);
+                    left.push(Left { life: *life, how });
                 }
-                let is = |packet: &mut _| *packet == entry.packet;
-                let how = if sent.take_if(is).is_some() {
-                    How::Sent
-                } else if displaced.take_if(is).is_some() {
-                    How::Displaced
-                } else {
-                    How::Expired
-                };
-                left.push(Left { entry, how });
-            }
-            before.extend(after);
+                stays
+            });
+            let record = row.number;
+            before.extend(stays.map(|entry| Life {
+                entry: *entry,
+                record,
+            }));
         }
         left
     }
 
     /// The packets that wait, in turn.
-    pub fn waiting(&self) -> impl Iterator<Item = &Entry> {
+    pub fn waiting(&self) -> impl Iterator<Item = &Life> {
         self.columns.iter().flatten()
     }
 
@@ -88,6 +97,18 @@ impl Lives {
 
     fn forget(&mut self) {
         self.columns.iter_mut().for_each(VecDeque::clear);
+    }
+}
+
+/// How a packet left: as the one sent, as the one displaced, or else expired.
+fn how(life: &Life, sent: &mut Option<Packet>, displaced: &mut Option<Packet>) -> How {
+    let is = |packet: &mut Packet| *packet == life.entry.packet;
+    if sent.take_if(is).is_some() {
+        How::Sent
+    } else if displaced.take_if(is).is_some() {
+        How::Displaced
+    } else {
+        How::Expired
     }
 }
 

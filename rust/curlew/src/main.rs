@@ -9,7 +9,7 @@
 //! - [`output`]: files and standard output, opened in one place
 //! - [`watch`]: how near a run came to what is guaranteed
 //! - [`lives`], [`tally`]: packets followed from offer to end, and counted
-//! - [`show`], [`check`], [`plot`]: the other commands
+//! - [`show`], [`check`], [`plot`], [`report`], [`trace`]: the other commands
 //!
 //! A log is read one record at a time, so that its length does not matter.
 
@@ -17,19 +17,24 @@
 
 mod args;
 mod check;
+mod check_json;
+mod csv;
 mod fault;
 mod follow;
 mod joined;
+mod json;
 mod lives;
 mod output;
 mod plain;
 mod plot;
 mod progress;
+mod report;
 mod show;
 mod stream;
 mod svg;
 mod tally;
 mod text;
+mod trace;
 mod watch;
 
 use std::process::ExitCode;
@@ -47,6 +52,8 @@ fn main() -> ExitCode {
         Command::Show(show) => show::show(&show),
         Command::Check(check) => check::check(&check),
         Command::Plot(plot) => plot::plot(&plot),
+        Command::Report(report) => report::report(&report),
+        Command::Trace(trace) => trace::trace(&trace),
     });
     match done {
         Ok(()) => ExitCode::SUCCESS,

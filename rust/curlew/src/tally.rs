@@ -31,8 +31,8 @@ pub struct Of {
     pub worst: Option<Worst>,
 }
 
-/// A wait.
-#[derive(Clone, Copy, Debug, PartialEq, Eq)]
+/// A wait; the longer one is the greater.
+#[derive(Clone, Copy, Debug, PartialEq, Eq, PartialOrd, Ord)]
 pub struct Worst {
     /// How long it was.
     pub waited: u64,
@@ -65,18 +65,33 @@ impl Tally {
                 _ => of.taken += 1,
             }
         }
-        for Left { entry, how } in left {
-            let of = &mut self.of[entry.packet.priority as usize];
+        for Left { life, how } in left {
+            let packet = life.entry.packet;
+            let of = &mut self.of[packet.priority as usize];
             match how {
                 How::Expired => of.expired += 1,
                 How::Displaced => of.displaced += 1,
                 How::Sent => of.went(Worst {
-                    waited: now - entry.packet.arrival,
-                    id: entry.packet.id,
+                    waited: now - packet.arrival,
+                    id: packet.id,
                     at: now,
                     record: row.number,
                 }),
             }
+        }
+    }
+
+    /// Adds what was counted elsewhere.
+    pub fn add(&mut self, other: &Tally) {
+        self.calls += other.calls;
+        for (of, other) in self.of.iter_mut().zip(&other.of) {
+            of.offered += other.offered;
+            of.taken += other.taken;
+            of.sent += other.sent;
+            of.expired += other.expired;
+            of.displaced += other.displaced;
+            of.refused += other.refused;
+            of.worst = of.worst.max(other.worst);
         }
     }
 
@@ -89,8 +104,6 @@ impl Tally {
 impl Of {
     fn went(&mut self, wait: Worst) {
         self.sent += 1;
-        if self.worst.is_none_or(|worst| wait.waited > worst.waited) {
-            self.worst = Some(wait);
-        }
+        self.worst = self.worst.max(Some(wait));
     }
 }

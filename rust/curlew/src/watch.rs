@@ -6,7 +6,7 @@ use reference::book::{Book, Entry, CEILING_BASE, CEILING_SLOPE};
 use reference::gate::Call;
 use reference::state::Packet;
 
-use crate::text::{seconds, span};
+use crate::text::{moment, span};
 
 /// A window of the run, and the air time admitted in it.
 #[derive(Clone, Copy, Debug, PartialEq, Eq)]
@@ -29,10 +29,10 @@ impl Window {
     /// Where it is, in words.
     pub fn place(&self) -> String {
         if self.from == self.to {
-            return format!("one packet at {} s", seconds(self.to));
+            return format!("one packet at {}", moment(self.to));
         }
         let width = span(self.to - self.from);
-        format!("the {width} from {} s on", seconds(self.from))
+        format!("the {width} from {} on", moment(self.from))
     }
 
     /// The air time that the ceiling allows in it, in whole µs.

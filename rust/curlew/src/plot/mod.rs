@@ -183,6 +183,16 @@ impl Survey {
 }
 
 impl Found {
+    /// The run's number.
+    pub fn number(&self) -> u64 {
+        self.number
+    }
+
+    /// Whether one of its answers is wrong.
+    pub fn is_wrong(&self) -> bool {
+        self.wrong.is_some()
+    }
+
     /// The frame of a part, if there is anything in it.
     pub fn frame(&self, from: Option<u64>, to: Option<u64>) -> Option<Frame> {
         let from = from.unwrap_or(0);
@@ -292,7 +302,7 @@ impl Drawing {
             self.lanes.now(now, priority, length);
         }
         for one in left.iter().filter(|_| inside) {
-            let packet = one.entry.packet;
+            let packet = one.life.entry.packet;
             let priority = packet.priority as usize;
             match one.how {
                 How::Sent => self.packets.sent(now, priority, packet.ontime),
@@ -440,7 +450,7 @@ impl Drawing {
             "Wrong at {}: {text}. From there on nothing is known.",
             span(*at)
         );
-        let text = fitted(&text, 12.0, (RIGHT - LEFT));
+        let text = fitted(&text, 12.0, RIGHT - LEFT);
         svg.text((MARGIN, 142.0), Anchor::Start, "limit-name", &text);
     }
 }
