@@ -133,7 +133,7 @@ answers, then the longest. It needs no other file and no network, and prints on 
 
   --title T    a title of your own
 
-200 warnings, 100 runs and 50 wrong answers are listed one by one; of more, how many they are.
+200 warnings, 50 runs and 50 wrong answers are listed one by one; of more, how many they are.
 LOG and ANSWERS are read twice, so they can't be -. The page is written whatever the verdict is;
 the exit status is that of check: 1 if anything was not kept.
 ";

@@ -417,11 +417,11 @@ impl Drawing {
             let counts = format!("{} taken, {} sent", grouped(of.taken), grouped(of.sent));
             let text = format!("priority {priority}{highest}: {counts}");
             let text = fitted(&text, 11.0, PLAIN * (room - 30.0));
-            svg.text((x + 25.0, 106.0), Anchor::Start, "tick", &text);
+            svg.text((x + 25.0, 106.0), Anchor::Start, "legend", &text);
         }
         svg.line((MARGIN, 122.0), (MARGIN + 32.0, 122.0), "limit");
         let text = "guaranteed, however loud the neighbours are";
-        svg.text((MARGIN + 40.0, 126.0), Anchor::Start, "tick", text);
+        svg.text((MARGIN + 40.0, 126.0), Anchor::Start, "legend", text);
         if self.found.samples > MANY || self.found.offers > MANY {
             let x = MARGIN + 310.0;
             svg.area((x, 117.0), (32.0, 10.0), "band");
@@ -430,7 +430,7 @@ impl Drawing {
             let text = format!(
                 "band: least to greatest in {each}; line: the median by time, to a 400th of the scale"
             );
-            svg.text((x + 40.0, 126.0), Anchor::Start, "tick", &text);
+            svg.text((x + 40.0, 126.0), Anchor::Start, "legend", &text);
         }
     }
 

@@ -61,6 +61,7 @@ svg .title { font-size: 21px; font-weight: bold; }
 svg .facts { font-size: 13px; fill: #444; }
 svg .name { font-size: 13px; font-weight: bold; }
 svg .tick { font-size: 11px; fill: #444; }
+svg .legend { font-size: 11px; fill: #444; }
 svg .note { font-size: 11px; fill: #666; }
 svg .limit-name { font-size: 11px; fill: #a80000; font-weight: bold; }
 svg .paper { fill: #fff; }

@@ -119,9 +119,7 @@ impl Since {
         let most = self.room as f64;
         let text = match self.drawn {
             Drawn::Lines { .. } => "Time since the last packet went (s); dark while others wait",
-            Drawn::Bands { .. } => {
-                "Time from packet to packet (s); dark: the longest while others wait"
-            }
+            Drawn::Bands { .. } => "Time between packets (s); dark: the longest while others wait",
         };
         heading(svg, SINCE, text);
         scale(svg, SINCE, most / 1e6, &[0.0, 0.5, 1.0], 1);
@@ -153,7 +151,7 @@ impl Since {
         let y = SINCE.y(self.floor as f64, most);
         let text = "floor, guaranteed: a poll on or above this line sends";
         if self.cuts.any() {
-            let text = format!("▲ cut off: longer than {}  ·  {text}", span(self.room));
+            let text = format!("▲ cut off at {}  ·  {text}", span(self.room));
             return limit(svg, SINCE, y, &text);
         }
         limit(svg, SINCE, y, text);

@@ -1,5 +1,6 @@
 //! The label's figures, and beside each the nearest that a log came to it.
 
+use std::cmp::Reverse;
 use std::collections::VecDeque;
 
 use reference::book::{self, STRETCH, STRETCH_MOST};
@@ -7,7 +8,7 @@ use reference::rules;
 
 use crate::follow::{Row, Run};
 use crate::stream::Said;
-use crate::text::{count, grouped, moment, span};
+use crate::text::{count, grouped, in_ms, moment, span};
 use crate::watch::{Wait, Window};
 
 const SECOND: u64 = STRETCH;
@@ -24,7 +25,8 @@ pub struct Figure {
     pub label: String,
     /// What the log has.
     pub log: String,
-    /// Whether it is kept; nothing where the label promises nothing.
+    /// Whether it was kept; nothing where the label promises nothing, or the log
+    /// has nothing of it.
     pub kept: Option<bool>,
 }
 
@@ -34,15 +36,17 @@ pub struct Measured {
     pub profile: u32,
     /// How many runs it was.
     pub runs: u64,
+    /// The run under way.
+    run: u64,
     longest: Option<u32>,
-    fullest: Option<Window>,
+    fullest: Option<(u64, Window)>,
     minute: Sliding,
     hour: Sliding,
     most_in_a_second: u64,
-    closest: Option<Window>,
+    closest: Option<(u64, Window)>,
     latest_closed: Option<u64>,
     rate: Rate,
-    nearest: Option<Wait>,
+    nearest: Option<(u64, Wait)>,
 }
 
 impl Measured {
@@ -51,6 +55,7 @@ impl Measured {
         Measured {
             profile,
             runs: 0,
+            run: 0,
             longest: None,
             fullest: None,
             minute: Sliding::new(MINUTE),
@@ -64,8 +69,9 @@ impl Measured {
     }
 
     /// A run begins.
-    pub fn begin(&mut self) {
+    pub fn begin(&mut self, run: u64) {
         self.runs += 1;
+        self.run = run;
         self.minute.begin();
         self.hour.begin();
         self.rate.begin();
@@ -79,28 +85,26 @@ impl Measured {
         let now = book.time();
         if let Some(packet) = row.sent {
             self.longest = self.longest.max(Some(packet.ontime));
-            self.minute.admitted(now, packet.ontime);
-            self.hour.admitted(now, packet.ontime);
+            self.minute.admitted(self.run, now, packet.ontime);
+            self.hour.admitted(self.run, now, packet.ontime);
             let second = book.stretch().len() as u64;
             self.most_in_a_second = self.most_in_a_second.max(second);
         }
-        self.rate.call(now, row.said);
+        self.rate.call(self.run, now, row.said);
     }
 
     /// A run is over.
     pub fn over(&mut self, run: &Run) {
         let watch = &run.watch;
-        let fuller = |window: &Window| self.fullest.is_none_or(|most| window.air > most.air);
-        self.fullest = watch.fullest.filter(fuller).or(self.fullest);
-        let closer = |window: &Window| {
-            self.closest
-                .is_none_or(|most| window.slack() < most.slack())
-        };
-        self.closest = watch.closest.filter(closer).or(self.closest);
+        let of = |window: Window| (run.number, window);
+        let air = |(_, window): &(u64, Window)| Reverse(window.air);
+        self.fullest = lesser(self.fullest, watch.fullest.map(of), air);
+        let slack = |(_, window): &(u64, Window)| window.slack();
+        self.closest = lesser(self.closest, watch.closest.map(of), slack);
+        let spare = |(_, wait): &(u64, Wait)| i128::from(wait.bound()) - i128::from(wait.waited);
+        let nearest = watch.nearest_wait.map(|wait| (run.number, wait));
+        self.nearest = lesser(self.nearest, nearest, spare);
         self.latest_closed = self.latest_closed.max(run.book.closest().latest_closed);
-        let spare = |wait: &Wait| i128::from(wait.bound()) - i128::from(wait.waited);
-        let nearer = |wait: &Wait| self.nearest.is_none_or(|most| spare(wait) < spare(&most));
-        self.nearest = watch.nearest_wait.filter(nearer).or(self.nearest);
     }
 
     /// The table.
@@ -126,12 +130,12 @@ impl Measured {
         let most = rules::on_time_max(self.profile).unwrap_or(0);
         Figure {
             name: "longest packet on air",
-            label: span(u64::from(most)),
+            label: air(u64::from(most)),
             log: match self.longest {
-                Some(longest) => span(u64::from(longest)),
+                Some(longest) => air(u64::from(longest)),
                 None => NOTHING.to_string(),
             },
-            kept: Some(self.longest.is_none_or(|longest| longest <= most)),
+            kept: self.longest.map(|longest| longest <= most),
         }
     }
 
@@ -149,15 +153,16 @@ impl Measured {
             name,
             label: "3 % of it and 4 ms".to_string(),
             log: match self.closest {
-                Some(window) => format!(
-                    "{} of the {} allowed: {}",
-                    span(window.air),
-                    span(window.allowed()),
-                    window.place()
+                Some((run, window)) => format!(
+                    "{} of the {} allowed: {}, run {}",
+                    air(window.air),
+                    air(window.allowed()),
+                    window.place(),
+                    grouped(run)
                 ),
                 None => NOTHING.to_string(),
             },
-            kept: Some(self.closest.is_none_or(|window| window.slack() >= 0)),
+            kept: self.closest.map(|(_, window)| window.slack() >= 0),
         }
     }
 
@@ -170,7 +175,7 @@ impl Measured {
                 Some(latest) => format!("latest CLOSED: {} after the one before", span(latest)),
                 None => "no poll was CLOSED".to_string(),
             },
-            kept: Some(self.latest_closed.is_none_or(|latest| latest < floor)),
+            kept: self.latest_closed.map(|latest| latest < floor),
         }
     }
 
@@ -180,12 +185,15 @@ impl Measured {
             name: "messages a minute, polled every 50 ms with something waiting, at least",
             label: grouped(least),
             log: match self.rate.fewest {
-                Some((fewest, from)) => {
-                    format!("fewest: {}, from {} on", grouped(fewest), moment(from))
-                }
+                Some((fewest, run, from)) => format!(
+                    "fewest: {}, from {} on, run {}",
+                    grouped(fewest),
+                    moment(from),
+                    grouped(run)
+                ),
                 None => "there was no such minute".to_string(),
             },
-            kept: Some(self.rate.fewest.is_none_or(|(fewest, _)| fewest >= least)),
+            kept: self.rate.fewest.map(|(fewest, ..)| fewest >= least),
         }
     }
 
@@ -195,9 +203,10 @@ impl Measured {
             name: "a warning with k before it, polled every p, waits at most",
             label: format!("(k + 1) x ({floor} + p)"),
             log: match self.nearest {
-                Some(wait) => format!(
-                    "nearest: packet {} went after {}, where k = {} and p = {} make {}",
+                Some((run, wait)) => format!(
+                    "nearest: packet {} of run {} went after {}, where k = {} and p = {} make {}",
                     wait.id,
+                    grouped(run),
                     span(wait.waited),
                     wait.before,
                     span(wait.apart),
@@ -205,7 +214,7 @@ impl Measured {
                 ),
                 None => "no warning went".to_string(),
             },
-            kept: Some(self.nearest.is_none_or(|wait| wait.waited <= wait.bound())),
+            kept: self.nearest.map(|(_, wait)| wait.waited <= wait.bound()),
         }
     }
 
@@ -225,17 +234,33 @@ impl Measured {
     }
 }
 
+/// Air time in the label's units: 0.5 ms, 30 ms, 1.8 s.
+fn air(time: u64) -> String {
+    match time {
+        0..SECOND => format!("{} ms", in_ms(time)),
+        _ => span(time),
+    }
+}
+
+/// The one that is less, the first if both are alike.
+fn lesser<T, K: Ord>(one: Option<T>, other: Option<T>, by: impl Fn(&T) -> K) -> Option<T> {
+    one.into_iter().chain(other).min_by_key(by)
+}
+
 const NOTHING: &str = "nothing was sent";
 
-fn on_air(name: &'static str, most: u64, window: Option<Window>) -> Figure {
+fn on_air(name: &'static str, most: u64, window: Option<(u64, Window)>) -> Figure {
     Figure {
         name,
-        label: span(most),
+        label: air(most),
         log: match window {
-            Some(window) => format!("{}: {}", span(window.air), window.place()),
+            Some((run, window)) => {
+                let run = grouped(run);
+                format!("{}: {}, run {run}", air(window.air), window.place())
+            }
             None => NOTHING.to_string(),
         },
-        kept: Some(window.is_none_or(|window| window.air <= most)),
+        kept: window.map(|(_, window)| window.air <= most),
     }
 }
 
@@ -245,7 +270,7 @@ struct Sliding {
     width: u64,
     held: VecDeque<(u64, u32)>,
     air: u64,
-    most: Option<Window>,
+    most: Option<(u64, Window)>,
 }
 
 impl Sliding {
@@ -263,7 +288,7 @@ impl Sliding {
         self.air = 0;
     }
 
-    fn admitted(&mut self, now: u64, ontime: u32) {
+    fn admitted(&mut self, run: u64, now: u64, ontime: u32) {
         self.held.push_back((now, ontime));
         self.air += u64::from(ontime);
         while let Some((at, old)) = self.held.front().copied() {
@@ -273,13 +298,10 @@ impl Sliding {
             self.held.pop_front();
             self.air -= u64::from(old);
         }
-        let fuller = self.most.is_none_or(|most| self.air > most.air);
+        let fuller = self.most.is_none_or(|(_, most)| self.air > most.air);
         if let (true, Some((from, _))) = (fuller, self.held.front().copied()) {
-            self.most = Some(Window {
-                from,
-                to: now,
-                air: self.air,
-            });
+            let (to, air) = (now, self.air);
+            self.most = Some((run, Window { from, to, air }));
         }
     }
 }
@@ -290,7 +312,8 @@ impl Sliding {
 /// are in one that starts where such a stretch does, or with a packet sent.
 #[derive(Default)]
 struct Rate {
-    fewest: Option<(u64, u64)>,
+    /// How many, in which run, and from when on.
+    fewest: Option<(u64, u64, u64)>,
     sent: u64,
     last_poll: Option<u64>,
     starts: VecDeque<(u64, u64)>,
@@ -303,7 +326,7 @@ impl Rate {
     }
 
     /// A call that was not refused.
-    fn call(&mut self, now: u64, said: Said) {
+    fn call(&mut self, run: u64, now: u64, said: Said) {
         let sent = matches!(said, Said::Sent(_));
         self.sent += u64::from(sent);
         let late = self.last_poll.is_none_or(|last| now - last > POLLED);
@@ -316,8 +339,8 @@ impl Rate {
             }
             self.starts.pop_front();
             let here = self.sent - before;
-            if self.fewest.is_none_or(|(fewest, _)| here < fewest) {
-                self.fewest = Some((here, from));
+            if self.fewest.is_none_or(|(fewest, ..)| here < fewest) {
+                self.fewest = Some((here, run, from));
             }
         }
         if polled(said) {
@@ -360,7 +383,7 @@ mod tests {
                 now += 25 + rng.below(300);
                 let ontime = 1 + rng.below(50) as u32;
                 all.push((now, ontime));
-                sliding.admitted(now, ontime);
+                sliding.admitted(1, now, ontime);
             }
             let air = |from: u64| -> u64 {
                 let inside = all
@@ -369,7 +392,7 @@ mod tests {
                 inside.map(|(_, ontime)| u64::from(*ontime)).sum()
             };
             let most = (0..now).map(air).max();
-            assert_eq!(sliding.most.map(|window| window.air), most);
+            assert_eq!(sliding.most.map(|(_, window)| window.air), most);
         }
     }
 
@@ -378,25 +401,25 @@ mod tests {
     fn the_fewest_are_those_of_all_minutes() {
         let mut rng = Rng::new(57);
         let mut found = 0;
-        for _ in 0..20 {
+        for _ in 0..8 {
             let (mut rate, mut calls, mut now) = (Rate::default(), Vec::new(), 0);
             rate.begin();
-            for _ in 0..6_000 {
-                now += 1 + rng.below(49_000) + 200_000 * u64::from(rng.below(3_000) == 0);
+            for _ in 0..10_000 {
+                now += 1 + rng.below(24_000) + 60_000 * u64::from(rng.below(20_000) == 0);
                 let said = match rng.below(40) {
                     0 | 1 => Said::Sent(7),
                     2 => Said::Taken,
-                    _ if rng.below(2_500) == 0 => Said::Idle,
+                    _ if rng.below(20_000) == 0 => Said::Idle,
                     _ => Said::Closed(9),
                 };
                 calls.push((now, said));
-                rate.call(now, said);
+                rate.call(1, now, said);
             }
             let fewest = fewest_of_all(&calls);
-            assert_eq!(rate.fewest.map(|(fewest, _)| fewest), fewest);
+            assert_eq!(rate.fewest.map(|(fewest, ..)| fewest), fewest);
             found += u64::from(fewest.is_some());
         }
-        assert!(found > 5, "{found}");
+        assert!(found > 3, "{found}");
     }
 
     /// By the words alone: from each poll on.

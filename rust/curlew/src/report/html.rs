@@ -29,7 +29,7 @@ table { border-collapse: collapse; font-size: 14px; margin: 4px 0 8px; }
 th, td { padding: 4px 12px 4px 0; text-align: left; vertical-align: top; border-bottom: 1px solid #e1e4e8; }
 th { font-weight: bold; border-bottom: 2px solid #9aa2ab; }
 .number { text-align: right; font-variant-numeric: tabular-nums; white-space: nowrap; }
-.wide { min-width: 15em; }
+.wide { min-width: 11em; }
 .mark { display: inline-block; width: 10px; height: 10px; margin-right: 7px; }
 .m0 { background: #d55e00; } .m1 { background: #0072b2; } .m2 { background: #009e73; } .m3 { background: #9467a8; } .m4 { background: #777; }
 .wrong { color: #a80000; font-weight: bold; }
@@ -48,6 +48,9 @@ svg.picture { display: block; width: 100%; height: auto; }
 @page { size: A4; margin: 14mm; }
 @media print {
   body { padding: 0; font-size: 11pt; max-width: none; }
+  p { max-width: none; }
+  svg .tick, svg .note, svg .limit-name { font-size: 13px; }
+  svg .name, svg .facts { font-size: 15px; }
   table { font-size: 9pt; }
   tr, .verdict, .figure { break-inside: avoid; }
   thead { display: table-header-group; }
@@ -67,14 +70,16 @@ pub fn page(
 ) -> String {
     let name = file_name(&wish.log);
     let title = wish.title.as_deref().unwrap_or(&name);
-    let mut body = vec![verdict(wish, gathered, whole)];
-    body.push(faults(gathered));
-    body.push(figures(&gathered.measured));
-    body.push(packets(gathered));
-    body.push(warnings(gathered, whole));
-    body.push(runs(gathered, whole));
-    body.push(drawn(pictures, whole.runs));
-    body.push(end(wish));
+    let body = [
+        verdict(wish, gathered, whole),
+        faults(gathered),
+        runs(gathered, whole),
+        figures(&gathered.measured),
+        packets(gathered),
+        drawn(pictures, whole.runs),
+        warnings(gathered),
+        end(wish),
+    ];
     format!(
         "<!DOCTYPE html>\n<html lang=\"en\">\n<head>\n<meta charset=\"utf-8\"/>\n\
          <meta name=\"viewport\" content=\"width=device-width, initial-scale=1\"/>\n\
@@ -85,15 +90,16 @@ pub fn page(
 }
 
 /// A table: its head, and rows of cells that are HTML already. A column whose
-/// name ends in # has numbers.
+/// name ends in # has numbers, one whose name ends in + has sentences.
 fn table(head: &[&str], rows: &[Vec<String>]) -> String {
-    let class = |at: usize| match head[at].ends_with('#') {
-        true => " class=\"number\"",
-        false => "",
+    let class = |at: usize| match head[at].chars().last() {
+        Some('#') => " class=\"number\"",
+        Some('+') => " class=\"wide\"",
+        _ => "",
     };
     let mut text = "<div class=\"scroll\"><table>\n<thead><tr>".to_string();
     for (at, name) in head.iter().enumerate() {
-        let name = name.trim_end_matches('#');
+        let name = name.trim_end_matches(['#', '+']);
         text += &format!("<th{}>{name}</th>", class(at));
     }
     text += "</tr></thead>\n<tbody>\n";
@@ -167,7 +173,7 @@ fn figures(measured: &[Measured]) -> String {
     for one in measured {
         let rows: Vec<Vec<String>> = one.figures().iter().map(figure).collect();
         text += &format!("<h3>{}</h3>\n", escaped(&of_runs(one)));
-        text += &table(&["figure", "the label", "this log", ""], &rows);
+        text += &table(&["figure+", "the label", "this log+", ""], &rows);
     }
     text
 }
@@ -195,7 +201,7 @@ fn packets(gathered: &Gathered) -> String {
         "expired#",
         "displaced#",
         "refused#",
-        "worst wait of those sent",
+        "worst wait of those sent+",
     ];
     let total = &gathered.total;
     let of = |(priority, of): (usize, &Of)| row_of(priority, of);
@@ -204,9 +210,13 @@ fn packets(gathered: &Gathered) -> String {
     rows.push(all_of(total));
     format!(
         "<h2>Packets, by priority</h2>\n<p>Priority 0 is the highest: warnings. Each packet taken was sent, its lifetime \
-         ended (expired), or a newer one of its priority took its place (displaced); {} still waiting when its run \
-         ended. A refused offer was not taken at all.</p>\n{}",
+         ended (expired), or a newer one of its priority took its place (displaced); {} still waiting when the run \
+         ended{}. A refused offer was not taken at all.</p>\n{}",
         was_were(gathered.waiting, "packet"),
+        match gathered.unknown {
+            0 => String::new(),
+            unknown => format!(", and {} waiting when an answer was wrong", was_were(unknown, "packet")),
+        },
         table(&head, &rows)
     )
 }
@@ -258,7 +268,7 @@ fn all_of(total: &Tally) -> Vec<String> {
     row.iter().map(|cell| format!("<b>{cell}</b>")).collect()
 }
 
-fn warnings(gathered: &Gathered, whole: &Whole) -> String {
+fn warnings(gathered: &Gathered) -> String {
     let lost = &gathered.lost;
     let mut text = "<h2>Warnings that were not sent</h2>\n".to_string();
     if lost.all() == 0 {
@@ -266,7 +276,7 @@ fn warnings(gathered: &Gathered, whole: &Whole) -> String {
         return text + &format!("<p>None. {} sent.</p>\n", was_were(sent, "warning"));
     }
     text += &format!(
-        "<p>{} of priority 0 not sent: {}. The label promises a warning that it goes if it lives longer than it may have to \
+        "<p>Of priority 0, {} not sent: {}. The label promises a warning that it goes if it lives longer than it may have to \
          wait, and fewer than five more are taken while it waits.</p>\n",
         was_were(lost.all(), "packet"),
         by_fate(lost)
@@ -278,11 +288,7 @@ fn warnings(gathered: &Gathered, whole: &Whole) -> String {
         "offered at",
         "what became of it",
     ];
-    let rows: Vec<Vec<String>> = lost
-        .list
-        .iter()
-        .map(|one| warning(one, whole.runs))
-        .collect();
+    let rows: Vec<Vec<String>> = lost.list.iter().map(warning).collect();
     text += &table(&head, &rows);
     let more = lost.all() - lost.list.len() as u64;
     if more > 0 {
@@ -302,11 +308,8 @@ fn by_fate(lost: &Lost) -> String {
     texts.join(", ")
 }
 
-fn warning(one: &Warning, runs: u64) -> Vec<String> {
-    let run = match one.run {
-        Some(run) => format!("{} of {}", grouped(run), grouped(runs)),
-        None => "no gate".to_string(),
-    };
+fn warning(one: &Warning) -> Vec<String> {
+    let run = one.run.map_or("no gate".to_string(), grouped);
     let offered = match one.run {
         Some(_) => moment(one.offered),
         None => "–".to_string(),
@@ -323,9 +326,9 @@ fn warning(one: &Warning, runs: u64) -> Vec<String> {
 fn runs(gathered: &Gathered, whole: &Whole) -> String {
     let head = [
         "run#",
-        "records",
+        "records#",
         "profile",
-        "length",
+        "length#",
         "pause before",
         "taken#",
         "sent#",
@@ -360,16 +363,22 @@ fn run(line: &Line) -> Vec<String> {
         tally.sum(|of| of.expired),
         tally.sum(|of| of.displaced),
         tally.sum(|of| of.refused),
-        line.waiting,
     ];
     let mut row = vec![
         grouped(line.number),
         format!("{} to {}", grouped(line.first), grouped(line.last)),
         format!("{}{}", line.profile, way(line.oldway)),
-        moment(line.time),
+        match line.faults {
+            0 => moment(line.time),
+            _ => format!("{}, then ?", moment(line.time)),
+        },
         line.pause.map_or("–".to_string(), span),
     ];
     row.extend(counts.map(grouped));
+    row.push(match line.faults {
+        0 => grouped(line.waiting),
+        _ => format!("{}, then ?", grouped(line.unknown)),
+    });
     row.push(match line.faults {
         0 => "kept".to_string(),
         faults => format!(

@@ -24,7 +24,7 @@ use figures::Measured;
 use lost::Lost;
 
 /// So many runs are in the table; of more, only how many they are.
-const RUNS_LISTED: usize = 100;
+const RUNS_LISTED: usize = 50;
 /// So many wrong answers are listed.
 const FAULTS_LISTED: u64 = 50;
 /// So many runs are drawn, those with wrong answers first, then the longest.
@@ -75,7 +75,9 @@ struct Line {
     time: u64,
     pause: Option<u64>,
     tally: Tally,
+    /// How many waited at its end; those of `unknown` when an answer was wrong.
     waiting: u64,
+    unknown: u64,
     faults: u64,
 }
 
@@ -84,11 +86,13 @@ struct Gathered {
     lives: Lives,
     /// The run under way: what was counted, and what there is to draw.
     tally: Tally,
+    unknown_here: u64,
     survey: Option<Survey>,
     run: Option<Line>,
     /// All runs together, and offers to no gate.
     total: Tally,
     waiting: u64,
+    unknown: u64,
     measured: Vec<Measured>,
     lost: Lost,
     lines: Vec<Line>,
@@ -106,10 +110,12 @@ impl Gathered {
         Gathered {
             lives: Lives::default(),
             tally: Tally::default(),
+            unknown_here: 0,
             survey: None,
             run: None,
             total: Tally::default(),
             waiting: 0,
+            unknown: 0,
             measured: Vec::new(),
             lost: Lost::default(),
             lines: Vec::new(),
@@ -144,6 +150,7 @@ impl Gathered {
         if row.book.is_none() && row.run.is_some() {
             // From a wrong answer on to the next make.
             self.lost.lost_sight(row, &self.lives);
+            self.unknown_here += self.lives.lengths().iter().sum::<u64>();
             self.uncounted += 1;
         }
         let left = self.lives.see(row);
@@ -169,6 +176,8 @@ impl Gathered {
         self.lost.over(line.number, line.time, next, &self.lives);
         line.waiting = self.lives.lengths().iter().sum();
         self.waiting += line.waiting;
+        line.unknown = std::mem::take(&mut self.unknown_here);
+        self.unknown += line.unknown;
         line.tally = tally;
         if let Some(found) = self.survey.take().and_then(Survey::found) {
             self.chosen.push((line.tally.calls, found));
@@ -187,7 +196,7 @@ impl Hearer for Gathered {
         if row.record.kind == 0 {
             self.end_run(Some(row.number));
             if let Some(run) = row.run {
-                self.measured(run.profile).begin();
+                self.measured(run.profile).begin(run.number);
             }
         }
         self.see(row);
@@ -207,6 +216,7 @@ impl Hearer for Gathered {
             pause: run.pause,
             tally: Tally::default(),
             waiting: 0,
+            unknown: 0,
             faults: run.faults,
         });
         Ok(())
