@@ -413,10 +413,13 @@ impl Drawing {
             let x = MARGIN + room * priority as f64;
             svg.area((x, 97.0), (18.0, 10.0), class);
             let of = &self.tally.of[priority];
-            let highest = if priority == 0 { " (highest)" } else { "" };
             let counts = format!("{} taken, {} sent", grouped(of.taken), grouped(of.sent));
-            let text = format!("priority {priority}{highest}: {counts}");
-            let text = fitted(&text, 11.0, PLAIN * (room - 30.0));
+            let room = PLAIN * (room - 30.0);
+            let highest = format!("priority {priority} (highest): {counts}");
+            let text = match priority {
+                0 if fitted(&highest, 11.0, room) == highest => highest,
+                _ => fitted(&format!("priority {priority}: {counts}"), 11.0, room),
+            };
             svg.text((x + 25.0, 106.0), Anchor::Start, "legend", &text);
         }
         svg.line((MARGIN, 122.0), (MARGIN + 32.0, 122.0), "limit");

@@ -401,7 +401,7 @@ mod tests {
     fn the_fewest_are_those_of_all_minutes() {
         let mut rng = Rng::new(57);
         let mut found = 0;
-        for _ in 0..8 {
+        for _ in 0..4 {
             let (mut rate, mut calls, mut now) = (Rate::default(), Vec::new(), 0);
             rate.begin();
             for _ in 0..10_000 {
@@ -419,7 +419,7 @@ mod tests {
             assert_eq!(rate.fewest.map(|(fewest, ..)| fewest), fewest);
             found += u64::from(fewest.is_some());
         }
-        assert!(found > 3, "{found}");
+        assert!(found > 1, "{found}");
     }
 
     /// By the words alone: from each poll on.

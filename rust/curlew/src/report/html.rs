@@ -83,7 +83,7 @@ pub fn page(
     format!(
         "<!DOCTYPE html>\n<html lang=\"en\">\n<head>\n<meta charset=\"utf-8\"/>\n\
          <meta name=\"viewport\" content=\"width=device-width, initial-scale=1\"/>\n\
-         <title>{title}</title>\n<style>\n{LOOK}{STYLE}</style>\n</head>\n<body>\n<h1>{title}</h1>\n{}</body>\n</html>\n",
+         <title>{title}</title>\n<style>\n{STYLE}{LOOK}</style>\n</head>\n<body>\n<h1>{title}</h1>\n{}</body>\n</html>\n",
         body.concat(),
         title = escaped(title)
     )
