@@ -23,8 +23,11 @@ LOG is a call log: records of 16 bytes. ANSWERS is what the program wrote for it
 
   replay <my.log >my.out
 
-A name of - is standard input or output. Long input is read piece by piece, and how far it is
-goes to standard error.
+The exit status of replay is always 0: a last line of END or TORN is the sign that its output is
+whole. A name of - is standard input or output. A pipe is read once; one that would have to be
+read twice, or is both LOG and ANSWERS, is refused. An output that is one of the inputs is refused
+too, whatever name it has there. Long input is read piece by piece, and how far it is goes to
+standard error.
 
 Exit status: 0 done, and of check: all was kept; 1 a guarantee was not kept, or an answer is
 wrong; 2 bad usage, a file that can't be read, or input that is not what it should be.
@@ -46,7 +49,8 @@ Reads standard input without IN.txt, writes to standard output without -o. One c
   tail B B ..                                1 to 15 bytes left over; nothing may come after
 
 STAMP is the radio's count, 0 to 4294967295, or +T or -T from the stamp before; it wraps.
-T is a time in µs, or with a unit: 400, 400us, 50ms, 1s. _ may stand between digits.
+T is a time in µs, or with a unit: 400, 400us, 400µs, 50ms, 1.5s, 2min, 1h. _ may stand between
+digits. A byte order mark at the start is nothing.
 Numbers that the gate refuses may be written, as long as the record has room for them. The way
 of a make is drop-oldest, the default, or keep-oldest, or any number after the word way.
 
@@ -56,27 +60,32 @@ of a make is drop-oldest, the default, or keep-oldest, or any number after the w
 ";
 
 const SHOW_HELP: &str = "\
-curlew show [--from N] [--first N] [--brief] LOG [ANSWERS]: a log as a table
+curlew show [--from N] [--first N] [--brief] [--csv] LOG [ANSWERS]: a log as a table
 curlew show [--from N] [--first N] --plain LOG: a log in the plain form
 
-A line a record: its number, the run's time in seconds, the call, the answer, how many packets
-were accepted, sent, expired and displaced so far, how many wait in the queue of each priority,
-the air time in the last second, and the level (profiles 1 and 2), the duty (profile 3) or the
-latest load (profile 4) with the wait that it asks for: after the end of a packet, or in profile 3
-from its start on. Packets are counted from calls and answers alone, an expired one when it is
-removed: at the first offer or poll that finds it expired. An offer that found its queue full
-says which packet it displaced, behind its answer; a poll that is closed for longer than the
-wait says that the second is full. Without ANSWERS, the answers are those of the second program.
-A line starts with ! where an answer is wrong, and the reason stands below it.
+A row a record: its number, the run's time as h:mm:ss and µs, the call (an offer with its
+identifier, priority, on-time and lifetime), the answer, how many packets were accepted, sent,
+expired and displaced so far, how many wait in the queue of each priority, the air time in the
+last second, and L and the level (profiles 1 and 2), the duty (profile 3) or the latest load
+(profile 4), with the wait in ms that it asks for: after the end of a packet, or in profile 3 from
+its start on. Packets are counted from calls and answers alone, an expired one when it is removed:
+at the first offer or poll that finds it expired. An offer that found its queue full says which
+packet it displaced, behind its answer; a poll that is closed for longer than the wait says full:
+the second is. Without ANSWERS, the answers are those of the second program.
 
-  --from N     start at record N
-  --first N    show N lines
+A row starts with ! where an answer is wrong, and the reason stands below it. What is then no
+longer known is told as ? up to the next make. No line has more than 120 places: what is too long
+for its column goes on in it, a line lower, and a count from 100,000 on is cut to k, M and so on.
+
+  --from N     start at record N; a wrong answer before it is shown all the same
+  --first N    stop after N rows, and read no more
   --brief      leave out samples, and polls that sent nothing
+  --csv        the table for programs, each number in full: docs/TOOLS.md says what is in it
   --plain      show the log in the plain form that 'curlew write' reads, and nothing else
 ";
 
 const CHECK_HELP: &str = "\
-curlew check LOG ANSWERS: were ceiling and floor kept, and do the counts add up
+curlew check [--json] [--faults N] LOG ANSWERS: were ceiling and floor kept, do the counts add up
 
 Keeps a book of each run (a make that was ready, and the calls up to the next make) from the
 calls and the answers alone, and says of each run:
@@ -96,8 +105,21 @@ calls and the answers alone, and says of each run:
              and is not displaced; where no packet did, it is not promised
   Answers    each is what the second program answers
 
-with the nearest that the run came to its limit. ANSWERS must fit the log: a line a record,
-then END or TORN. Exit status 1 if anything was not kept, 2 if the answers don't fit.
+with the nearest that the run came to its limit. After a wrong answer nobody knows what the gate
+held; up to the next make, each answer is then held to the second program's, and each that differs
+is told. 20 runs are told in full, 1,000 in a line each.
+
+Then all runs together: air added up across makes, second and ceiling over it. A make starts
+afresh, so a host that sends right after a restart can break what each run keeps. The time from
+one run to the next is taken from the stamps, which wrap each 71 min 35 s: the least that they
+allow, so it may have been longer. A step of half a turn or more is a count that went back or
+began anew: the pause is then not known, and nothing is added up over it.
+
+ANSWERS must fit the log: a line a record, then END or TORN. Exit status 1 if anything was not
+kept, across restarts too, 2 if the answers don't fit.
+
+  --faults N   tell N wrong answers one by one (50); how many more there are is said
+  --json       the verdict for programs: docs/TOOLS.md says what is in it
 
 For a third opinion, the plain engine plays the log too, which keeps one list in place of four
 queues and is proved to answer alike. Its answers go into a check as any others:

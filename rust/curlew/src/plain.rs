@@ -620,7 +620,7 @@ mod tests {
             ("make 1 at 5d", "'5d' is no number for the stamp"),
             ("make 1 at 2h", "the stamp is too large"),
             ("make 1 at 1.5", "'1.5' is no number for the stamp"),
-            ("make 1 at +1.s", "'+1.s' is no number for the stamp"),
+            ("make 1 at 1.s", "'1.s' is no number for the stamp"),
             ("make 1 drop-oldest", "'at' and its stamp are missing"),
             ("make 1 oldest at 0", "'oldest' where 'at' is due"),
             (

@@ -160,8 +160,10 @@ impl Table<'_> {
             Some(answers) => format!("answers of {answers}"),
             None => "answers of the second program".to_string(),
         };
-        for line in wrapped(&format!("{}, {of}", self.wish.log), LINE) {
-            writeln!(self.output, "{line}")?;
+        for name in [&format!("{},", self.wish.log), &of] {
+            for line in wrapped(name, LINE) {
+                writeln!(self.output, "{line}")?;
+            }
         }
         for line in 0..2 {
             self.cells(&NAMES.map(|name| name[line].to_string()))?;

@@ -78,14 +78,17 @@ fn shortest_decimal(time: u64, unit: u64, whole: String) -> String {
     }
 }
 
-/// A length of time as the plain form reads it, with no blank: 400µs, 4ms, 60s.
+/// A length of time as the plain form reads it, with no blank, in the unit in
+/// which it is the shortest: 400µs, 4ms, 0.4s.
 pub fn plain_span(time: u64) -> String {
-    match time {
-        0 => "0µs".to_string(),
-        time if time % 1_000_000 == 0 => format!("{}s", time / 1_000_000),
-        time if time % 1_000 == 0 => format!("{}ms", time / 1_000),
-        time => format!("{time}µs"),
+    let mut shortest = format!("{time}µs");
+    for (unit, name) in [(1_000, "ms"), (1_000_000, "s")] {
+        let text = shortest_decimal(time, unit, (time / unit).to_string()) + name;
+        if time > 0 && text.chars().count() < shortest.chars().count() {
+            shortest = text;
+        }
     }
+    shortest
 }
 
 /// A number in at most five places: as it is, or cut down to k, M and so on.
@@ -115,7 +118,7 @@ pub fn wrapped(text: &str, width: usize) -> Vec<String> {
     let mut room = width;
     for word in text.split(' ') {
         let long = word.chars().count();
-        if !line.is_empty() && long + 1 <= room {
+        if !line.is_empty() && long < room {
             line.push(' ');
             line += word;
             room -= long + 1;
@@ -191,7 +194,10 @@ mod tests {
             (0, "0µs"),
             (400, "400µs"),
             (4_000, "4ms"),
+            (400_000, "0.4s"),
+            (1_500_000, "1.5s"),
             (60_000_000, "60s"),
+            (60_000_001, "60000001µs"),
         ] {
             assert_eq!(plain_span(time), text);
             assert_eq!(crate::plain::time_of(text), Some(time));

@@ -51,6 +51,16 @@ fn the_proved_program_gives_the_output() {
 fn each_keeps_its_guarantees() {
     for name in EXAMPLES {
         let check = curlew(&["check", &example(name, "log"), &example(name, "out")]);
+        if name == "damaged-tail" {
+            // Its host sends 102 µs after a restart.
+            let text = check.failed(1, "Verdict: NOT KEPT across restarts").text();
+            assert_eq!(text.matches("NOT KEPT").count(), 2, "{text}");
+            let words =
+                "Ceiling    NOT KEPT: the 102 µs from record 13 (run 1) to record 21 (run 2), \
+                         with 4,500 µs of the 4,003 µs allowed.";
+            assert!(text.contains(words), "{text}");
+            continue;
+        }
         let text = check.good().text();
         assert!(text.contains("Verdict: KEPT."), "{name}: {text}");
         assert!(!text.contains("NOT KEPT"), "{name}: {text}");
@@ -100,16 +110,20 @@ fn with_many_probes_a_threshold_is_met_to_the_probe() {
         .good()
         .text();
     for (call, level) in [
-        ("sample, 3,749 of 12,500 busy", "level 0, 100 ms"),
-        ("sample, 3,750 of 12,500 busy", "level 1, 200 ms"),
-        ("sample, 7,501 of 12,500 busy", "level 4, 1 s"),
-        ("sample, 600 of 1,000 busy", "level 3, 500 ms"),
-        ("sample, 601 of 1,000 busy", "level 4, 1 s"),
+        ("sample 3749 of 12500 ", " L0 100"),
+        ("sample 3750 of 12500 ", " L1 200"),
+        ("sample 7501 of 12500 ", " L4 1000"),
+        ("sample 600 of 1000 ", " L3 500"),
+        ("sample 601 of 1000 ", " L4 1000"),
     ] {
         let row = text.lines().find(|line| line.contains(call)).unwrap();
         assert!(row.ends_with(level), "{row}");
     }
-    for call in ["12,501 of 12,500", "0 of 12,501", "2 of 1 busy"] {
+    for call in [
+        "sample 12501 of 12500 ",
+        "sample 0 of 12501 ",
+        "sample 2 of 1 ",
+    ] {
         let row = text.lines().find(|line| line.contains(call)).unwrap();
         assert!(row.contains("REFUSED 4 BAD-SAMPLE"), "{row}");
     }
@@ -120,15 +134,15 @@ fn with_many_probes_a_threshold_is_met_to_the_probe() {
 fn abroad_the_wait_goes_by_the_latest_load() {
     let text = curlew(&["show", &example("abroad", "log")]).good().text();
     for (call, wait) in [
-        ("sample, 7,750 of 12,500 busy", "load 62.000 %, 25 ms"),
-        ("sample, 7,751 of 12,500 busy", "load 62.008 %, 25 ms"),
-        ("sample, 7,763 of 12,500 busy", "load 62.104 %, 48 ms"),
-        ("sample, 8,750 of 12,500 busy", "load 70.000 %, 1 s"),
+        ("sample 7750 of 12500 ", " 62.00% 25"),
+        ("sample 7751 of 12500 ", " 62.01% 25"),
+        ("sample 7763 of 12500 ", " 62.10% 48"),
+        ("sample 8750 of 12500 ", " 70.00% 1000"),
     ] {
         let row = text.lines().find(|line| line.contains(call)).unwrap();
         assert!(row.ends_with(wait), "{row}");
     }
-    assert!(text.contains("CLOSED 797000, second full"), "{text}");
+    assert!(text.contains("CLOSED 797000, full"), "{text}");
     let check = curlew(&[
         "check",
         &example("abroad", "log"),
