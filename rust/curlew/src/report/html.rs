@@ -284,9 +284,9 @@ fn warnings(gathered: &Gathered) -> String {
     let head = [
         "packet#",
         "record#",
-        "run",
-        "offered at",
-        "what became of it",
+        "run#",
+        "offered at#",
+        "what became of it+",
     ];
     let rows: Vec<Vec<String>> = lost.list.iter().map(warning).collect();
     text += &table(&head, &rows);
@@ -329,7 +329,7 @@ fn runs(gathered: &Gathered, whole: &Whole) -> String {
         "records#",
         "profile",
         "length#",
-        "pause before",
+        "pause before#",
         "taken#",
         "sent#",
         "expired#",

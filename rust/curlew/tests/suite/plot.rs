@@ -1,6 +1,8 @@
 //! `curlew plot`.
 
-use crate::help::{curlew, example, example_bytes, Folder, EXAMPLES};
+use crate::counted::{assert_well_formed, busy_log, offers, End, Offer};
+use crate::help::{answers, curlew, example, example_bytes, Folder, EXAMPLES};
+use reference::rng::Rng;
 
 /// The picture of an example.
 fn picture(name: &str, more: &[&str]) -> String {
@@ -11,24 +13,6 @@ fn picture(name: &str, more: &[&str]) -> String {
     words.extend(more);
     curlew(&words).good();
     std::fs::read_to_string(&svg).unwrap()
-}
-
-/// Every element that is opened is closed, in order.
-fn assert_well_formed(svg: &str) {
-    let mut open = Vec::new();
-    for part in svg.split('<').skip(1) {
-        let tag = part.split('>').next().unwrap();
-        if let Some(name) = tag.strip_prefix('/') {
-            assert_eq!(open.pop(), Some(name));
-        } else if !tag.ends_with('/') {
-            open.push(tag.split(' ').next().unwrap());
-        }
-    }
-    assert!(open.is_empty(), "{open:?}");
-    assert!(
-        !svg.contains("NaN") && !svg.contains("inf"),
-        "a number is none"
-    );
 }
 
 #[test]
@@ -164,19 +148,93 @@ fn a_part_of_a_run() {
     plot("soon", "3s", "--from needs a time, as 12s, not 'soon'");
 }
 
-/// The picture of a long run is no larger than that of a short one could be.
+/// What was refused has marks, and is counted.
+#[test]
+fn each_offer_refused_has_a_mark() {
+    let keeps = picture("keep-oldest", &[]);
+    assert_eq!(marks(&keeps, "refused"), 2);
+    assert!(
+        keeps.contains("waiting at the end · 2 offers refused"),
+        "{keeps}"
+    );
+    assert_eq!(marks(&picture("drop-oldest", &[]), "refused"), 0);
+    let damaged = picture("damaged-tail", &[]);
+    assert!(damaged.contains("refused p4"), "one that has no priority");
+}
+
+/// The counts in the picture of a log's part.
+fn counts_drawn(log: &[u8], from: u64, to: u64) -> (String, String) {
+    let folder = Folder::new();
+    let out = folder.file("a.out", answers(log));
+    let (log, svg) = (folder.file("a.log", log), folder.path("a.svg"));
+    let (from, to) = (from.to_string(), to.to_string());
+    let words = ["plot", &log, &out, "-o", &svg, "--from", &from, "--to", &to];
+    curlew(&words).good();
+    let svg = std::fs::read_to_string(&svg).unwrap();
+    assert_well_formed(&svg);
+    let at = svg.find(" taken: ").unwrap();
+    let line = svg[..at].rfind('>').unwrap() + 1;
+    let end = at + svg[at..].find('<').unwrap();
+    (svg[line..end].to_string(), svg)
+}
+
+/// The counts of a part are those of the part, in short pictures and in long ones.
+#[test]
+fn the_counts_are_those_of_the_part_that_is_drawn() {
+    let mut rng = Rng::new(96);
+    for records in [300, 300, 300, 300, 24_000] {
+        let log = busy_log(&mut rng, records);
+        let all = offers(&log);
+        let last = all.iter().map(|offer| offer.at).max().unwrap();
+        let from = 1 + rng.below(last / 4);
+        let to = last / 2 + rng.below(last / 4);
+        let (line, svg) = counts_drawn(&log, from, to);
+        let many = |of: &dyn Fn(&Offer) -> bool| all.iter().filter(|offer| of(offer)).count();
+        let drawn = |time: u64| (from..=to).contains(&time);
+        let taken = |offer: &Offer| offer.end != End::Refused;
+        let ended = |end: End| many(&|offer| offer.end == end && drawn(offer.ended));
+        let waiting = |at: u64| many(&|one| taken(one) && one.at < at && one.ended >= at);
+        let parts = [
+            format!(" {} waiting before", waiting(from)),
+            format!(
+                " {} packets taken",
+                many(&|one| taken(one) && drawn(one.at))
+            ),
+            format!(" {} sent", ended(End::Sent)),
+            format!(" {} expired", ended(End::Expired)),
+            format!(" {} displaced", ended(End::Displaced)),
+            format!(" {} waiting at the end", waiting(to + 1)),
+            format!(" {} offers refused", ended(End::Refused)),
+        ];
+        let plain = line.replace(',', "");
+        for part in parts {
+            assert!(
+                plain.contains(&part),
+                "{records}, {from} to {to}: no '{part}' in {line}"
+            );
+        }
+        assert_eq!(svg.contains("Packets sent a minute"), records > 10_000);
+    }
+}
+
+/// In a long run each priority that went is seen, however few they are, and so is what did not go.
 #[test]
 fn a_long_run() {
     let folder = Folder::new();
     let mut text = "make 1 at 0\n".to_string();
     for id in 0..50_000 {
         let busy = id * 7_919 % 1_001;
+        // One warning in the whole run, and eleven in a thousand of each of two others.
+        let priority = match id {
+            31_000 => 0,
+            _ if id % 1_000 < 11 => 1,
+            _ if id % 1_000 < 22 => 2,
+            _ => 3,
+        };
         text += &format!("sample {busy} at +9ms\n");
         text += &format!(
-            "offer {id} priority {} ontime 900 lifetime 70ms at +9ms\n",
-            id % 4
+            "offer {id} priority {priority} ontime 900 lifetime 1500ms at +9ms\npoll at +9ms\n"
         );
-        text += "poll at +9ms\n";
     }
     let text = folder.file("long.txt", text);
     let (log, svg) = (folder.path("long.log"), folder.path("long.svg"));
@@ -184,7 +242,65 @@ fn a_long_run() {
     curlew(&["plot", &log, "-o", &svg]).good();
     let svg = std::fs::read_to_string(&svg).unwrap();
     assert_well_formed(&svg);
-    assert!(svg.len() < 2_000_000, "{}", svg.len());
+    assert!(svg.len() < 400_000, "{}", svg.len());
+    assert!(svg.contains("priority 0 (highest): 1 taken, 1 sent"));
+    for words in [
+        "Packets sent a minute, stacked by priority",
+        "band: least to greatest in 5.49 s; line: the median by time, to a 400th of the scale",
+        "Time between packets (s); dark: the longest while others wait",
+    ] {
+        assert!(svg.contains(words), "no '{words}'");
+    }
+    // A bar of priority 0 in one place; of the others in all of the sends.
+    let bars = |class: &str| -> Vec<usize> {
+        let of = format!(r#"class="{class} bar""#);
+        let lines = svg.lines().filter(|line| line.contains(&of));
+        lines.map(|line| line.matches('M').count()).collect()
+    };
+    assert_eq!(bars("p0"), [1]);
+    assert!(
+        bars("p3").iter().all(|bars| *bars > 100),
+        "{:?}",
+        bars("p3")
+    );
+    assert_eq!(marks(&svg, "stem"), 0);
+}
+
+/// A pause that has no room in its panel is marked as cut off, with a warning's floor drawn on top.
+#[test]
+fn what_is_cut_off_is_marked() {
+    let drawn = |pause: &str| {
+        let folder = Folder::new();
+        let offer = "offer 1 priority 0 ontime 900 lifetime 1s";
+        let text = format!(
+            "make 1 at 0\n{offer} at +5ms\npoll at +5ms\n{offer} at +{pause}\npoll at +5ms\n"
+        );
+        let (log, svg) = (folder.path("a.log"), folder.path("a.svg"));
+        let text = folder.file("a.txt", text);
+        curlew(&["write", &text, "-o", &log]).good();
+        curlew(&["plot", &log, "-o", &svg]).good();
+        std::fs::read_to_string(&svg).unwrap()
+    };
+    let (short, long) = (drawn("1100ms"), drawn("9s"));
+    assert!(!short.contains(r#"class="cut""#) && !short.contains("cut off"));
+    assert!(long.contains(r#"class="cut""#) && long.contains("▲ cut off at 1.25 s"));
+    // What is drawn later lies on top.
+    let at = |class: &str| long.rfind(&format!(r#"class="{class}""#)).unwrap();
+    assert!(at("limit") > at("trace") && at("limit") > at("faint"));
+}
+
+#[test]
+fn a_long_title_is_cut_to_the_page() {
+    let title = "Roadworks ".repeat(60);
+    let svg = picture("jam", &["--title", &title]);
+    let line = svg.lines().find(|line| line.contains(r#"class="title""#));
+    let line = line.unwrap();
+    assert!(
+        line.contains("Roadworks Roadworks") && line.contains("…</text>"),
+        "{line}"
+    );
+    assert!(line.len() < 200, "{line}");
+    assert!(svg.contains(&format!("<title>{title}</title>")));
 }
 
 /// The load is drawn, and not the busy count: half of 12,500 probes is as high as half of 1,000.
