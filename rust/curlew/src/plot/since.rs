@@ -117,11 +117,7 @@ impl Since {
     /// Draws the panel.
     pub fn draw(&mut self, svg: &mut Svg) {
         let most = self.room as f64;
-        let text = match self.drawn {
-            Drawn::Lines { .. } => "Time since the last packet went (s); dark while others wait",
-            Drawn::Bands { .. } => "Time between packets (s); dark: the longest while others wait",
-        };
-        heading(svg, SINCE, text);
+        heading(svg, SINCE, self.name());
         scale(svg, SINCE, most / 1e6, &[0.0, 0.5, 1.0], 1);
         let Frame { known: to, .. } = self.frame;
         match &mut self.drawn {
@@ -149,12 +145,23 @@ impl Since {
         }
         self.cuts.draw(svg, SINCE);
         let y = SINCE.y(self.floor as f64, most);
-        let text = "floor, guaranteed: a poll on or above this line sends";
-        if self.cuts.any() {
-            let text = format!("▲ cut off at {}  ·  {text}", span(self.room));
-            return limit(svg, SINCE, y, &text);
+        limit(svg, SINCE, y, &self.floor_name());
+    }
+
+    fn name(&self) -> &'static str {
+        match self.drawn {
+            Drawn::Lines { .. } => "Time since the last packet went (s); dark while others wait",
+            Drawn::Bands { .. } => "Time between packets (s); dark: the longest while others wait",
         }
-        limit(svg, SINCE, y, text);
+    }
+
+    /// What the line of the floor is, and what is cut off.
+    fn floor_name(&self) -> String {
+        let text = "floor, guaranteed: a poll on or above this line sends";
+        match self.cuts.any() {
+            true => format!("▲ cut off at {}  ·  {text}", span(self.room)),
+            false => text.to_string(),
+        }
     }
 }
 

@@ -31,7 +31,8 @@ th { font-weight: bold; border-bottom: 2px solid #9aa2ab; }
 .number { text-align: right; font-variant-numeric: tabular-nums; white-space: nowrap; }
 .wide { min-width: 11em; }
 .mark { display: inline-block; width: 10px; height: 10px; margin-right: 7px; }
-.m0 { background: #d55e00; } .m1 { background: #0072b2; } .m2 { background: #009e73; } .m3 { background: #9467a8; } .m4 { background: #777; }
+.m0 { background: #d55e00; } .m1 { background: #0072b2; } .m2 { background: #009e73; }
+.m3 { background: #9467a8; } .m4 { background: #777; }
 .wrong { color: #a80000; font-weight: bold; }
 .small { font-size: 13px; color: #555; }
 ul { padding-left: 20px; } li { margin: 3px 0; overflow-wrap: anywhere; }
@@ -339,7 +340,9 @@ fn runs(gathered: &Gathered, whole: &Whole) -> String {
         "",
     ];
     let rows: Vec<Vec<String>> = gathered.lines.iter().map(run).collect();
-    let mut text = "<h2>Runs</h2>\n<p>A run goes from one start of the gate (a make) to the next. Its time starts at 0.</p>\n".to_string();
+    let mut text = "<h2>Runs</h2>\n\
+        <p>A run goes from one start of the gate (a make) to the next. Its time starts at 0.</p>\n"
+        .to_string();
     text += &table(&head, &rows);
     let more = whole.runs - gathered.lines.len() as u64;
     if more > 0 {

@@ -181,8 +181,9 @@ impl Gathered {
         line.tally = tally;
         if let Some(found) = self.survey.take().and_then(Survey::found) {
             self.chosen.push((line.tally.calls, found));
-            self.chosen
-                .sort_by_key(|(calls, found)| (!found.is_wrong(), Reverse(*calls), found.number()));
+            self.chosen.sort_by_key(|(calls, found)| {
+                (found.wrong().is_none(), Reverse(*calls), found.number)
+            });
             self.chosen.truncate(PICTURES);
         }
         if self.lines.len() < RUNS_LISTED {
@@ -256,10 +257,7 @@ impl Hearer for Pictures {
             return Ok(());
         };
         if row.record.kind == 0 {
-            let found = self
-                .wanted
-                .iter()
-                .find(|found| found.number() == run.number);
+            let found = self.wanted.iter().find(|found| found.number == run.number);
             let frame = found.and_then(|found| found.frame(None, None));
             let pair = found.zip(frame);
             self.drawing = pair.map(|(found, frame)| (run.number, Drawing::new(found, frame)));
