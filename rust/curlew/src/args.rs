@@ -134,10 +134,11 @@ curlew plot [--run N] [--from T] [--to T] LOG [ANSWERS] -o OUT.svg: a picture of
 Over the run's time: the channel load, the level, duty or wait, what waits in each queue, what was
 sent, what expired, was displaced or refused, the time since the last admission beside the floor,
 and the on-time admitted in the last second beside its limit of 30 ms. The counts are those of the
-part that is drawn. Above 2,000 packets there are packets a minute, stacked by priority, and bands
+part that is drawn. Above 2,000 offers there are packets a minute, stacked by priority, and bands
 from the least to the greatest with the median, told to a 400th of the scale; so it is with the
-load above 2,000 samples. Where an answer is wrong the picture ends and says so, and the exit
-status is 1. LOG and ANSWERS are read twice, so they can't be -.
+load above 2,000 samples, and with what passes between packets above 300 of them. Where an answer
+is wrong the picture ends and says so, and the exit status is 1. LOG and ANSWERS are read twice,
+so they can't be -.
 
   --run N      the Nth run of the log (the first)
   --from T     a part of the run: from this time on, in µs or with a unit, as 500ms or 12s

@@ -4,8 +4,11 @@ use crate::plot::course::sides;
 use crate::plot::page::{Frame, Panel, PRIORITIES};
 use crate::svg::Svg;
 
-/// How many bars there are, of six pixels each.
-pub const BARS: usize = 164;
+/// The most bars, of six pixels each, and the fewest.
+const BARS: (u64, u64) = (164, 20);
+/// Where there is room for it, a bar is no shorter than this: packets go some
+/// tens a second at the most.
+const SHORTEST: u64 = 1_000_000;
 /// No part of a bar is drawn thinner than this: nothing hides.
 const THINNEST: f64 = 1.2;
 
@@ -18,19 +21,25 @@ pub struct Bars {
 impl Bars {
     /// No packets yet.
     pub fn new(frame: Frame) -> Bars {
-        let counts = vec![[0; PRIORITIES.len()]; BARS];
+        let bars = (frame.length() / SHORTEST).clamp(BARS.1, BARS.0);
+        let counts = vec![[0; PRIORITIES.len()]; bars as usize];
         Bars { frame, counts }
+    }
+
+    /// How long a bar is.
+    pub fn length(&self) -> u64 {
+        self.frame.length() / self.counts.len() as u64
     }
 
     /// So many packets of a priority at a time.
     pub fn add(&mut self, time: u64, priority: usize, many: u64) {
-        let bar = self.frame.column(time, BARS);
+        let bar = self.frame.column(time, self.counts.len());
         self.counts[bar][priority] += many;
     }
 
     /// So many packets in a bar are so many a minute.
     fn a_minute(&self, many: u64) -> f64 {
-        many as f64 * BARS as f64 * 60e6 / self.frame.length() as f64
+        many as f64 * self.counts.len() as f64 * 60e6 / self.frame.length() as f64
     }
 
     /// The highest bar, in packets a minute.
@@ -43,7 +52,7 @@ impl Bars {
     pub fn draw(&self, svg: &mut Svg, panel: Panel, most: f64) {
         let mut paths: [String; PRIORITIES.len()] = Default::default();
         for (bar, counts) in self.counts.iter().enumerate() {
-            let (left, right) = sides(bar, BARS);
+            let (left, right) = sides(bar, self.counts.len());
             let (left, right) = (left + 0.4, right - 0.4);
             let mut base = panel.base;
             for (path, many) in paths.iter_mut().zip(counts) {
@@ -81,7 +90,19 @@ mod tests {
         assert_eq!(bars.highest(), 16.0);
         assert_eq!(bars.counts[0], [1, 0, 0, 7, 0]);
         assert_eq!(bars.counts[1], [0, 0, 0, 6, 0]);
-        assert_eq!(bars.counts[BARS - 1], [0, 0, 1, 0, 0]);
+        assert_eq!(bars.counts[163], [0, 0, 1, 0, 0]);
+    }
+
+    #[test]
+    fn bars_are_not_too_short() {
+        for (length, bars) in [(9, 20), (30_000_000, 30), (90_000_000_000, 164)] {
+            let bounds = Frame {
+                from: 0,
+                to: length,
+                known: length,
+            };
+            assert_eq!(Bars::new(bounds).counts.len(), bars);
+        }
     }
 
     /// One warning among a million others is still seen.

@@ -21,8 +21,11 @@ use crate::svg::{Anchor, Svg};
 use crate::tally::{place, Tally};
 use crate::text::{count, grouped, span};
 
-/// More packets than this, or samples, are drawn as bars and bands.
+/// More offers than this are drawn as bars and bands, and more samples as bands.
 const MANY: u64 = 2_000;
+/// More packets sent than this would be a solid bar in the panels of what passes
+/// between them.
+const MANY_SENT: u64 = 300;
 
 /// A picture under way.
 pub struct Drawing {
@@ -45,6 +48,7 @@ impl Drawing {
     /// The empty picture of a run.
     pub fn new(found: &Found, frame: Frame) -> Drawing {
         let (samples, packets) = (found.samples > MANY, found.offers > MANY);
+        let sent = found.sent > MANY_SENT;
         Drawing {
             found: found.clone(),
             frame,
@@ -56,8 +60,8 @@ impl Drawing {
             control: Control::new(frame, found.profile, samples),
             lanes: Waiting::new(frame, packets),
             packets: Packets::new(frame, found.profile, packets),
-            since: Since::new(frame, found.floor, found.hold, packets),
-            air: Air::new(frame, packets),
+            since: Since::new(frame, found.floor, found.hold, sent),
+            air: Air::new(frame, sent),
         }
     }
 
@@ -231,7 +235,13 @@ impl Drawing {
         svg.line((MARGIN, 122.0), (MARGIN + 32.0, 122.0), "limit");
         let text = "guaranteed, however loud the neighbours are";
         svg.text((MARGIN + 40.0, 126.0), Anchor::Start, "legend", text);
-        if self.found.samples > MANY || self.found.offers > MANY {
+        let Found {
+            samples,
+            offers,
+            sent,
+            ..
+        } = self.found;
+        if samples > MANY || offers > MANY || sent > MANY_SENT {
             let x = MARGIN + 310.0;
             svg.area((x, 117.0), (32.0, 10.0), "band");
             svg.line((x, 122.0), (x + 32.0, 122.0), "trace");

@@ -4,7 +4,7 @@
 
 use reference::rules;
 
-use crate::plot::bars::{Bars, BARS};
+use crate::plot::bars::Bars;
 use crate::plot::page::{
     about, heading, note, round_step, scale, side, Frame, Panel, LEFT, LOST, PRIORITIES, RIGHT,
     SENDS,
@@ -110,7 +110,7 @@ impl Packets {
         match &mut self.drawn {
             Drawn::Marks(marks) => marks.draw(svg, most),
             Drawn::Rates { sent, lost } => {
-                let bar = about(self.frame.length() / BARS as u64);
+                let bar = about(sent.length());
                 heading(svg, SENDS, "Packets sent a minute, stacked by priority");
                 let text = "below: packets a minute that were not sent";
                 note(svg, SENDS, &format!("each bar {bar}; {text}"));

@@ -28,6 +28,8 @@ pub struct Found {
     pub samples: u64,
     /// Offers in that part.
     pub offers: u64,
+    /// Packets sent in that part.
+    pub sent: u64,
     /// The floor of its profile.
     pub floor: u64,
     /// The longest that something waited before anything was sent.
@@ -60,11 +62,9 @@ impl Survey {
         }
         found.hold = run.watch.longest_hold.map_or(0, |(hold, _)| hold);
         if (self.from..=self.to).contains(&moment(row)) {
-            match row.record.kind {
-                1 => found.samples += 1,
-                2 => found.offers += 1,
-                _ => {}
-            }
+            found.samples += u64::from(row.record.kind == 1);
+            found.offers += u64::from(row.record.kind == 2);
+            found.sent += u64::from(row.sent.is_some());
         }
     }
 
@@ -83,6 +83,7 @@ impl Found {
             time: 0,
             samples: 0,
             offers: 0,
+            sent: 0,
             floor: run.book.floor(),
             hold: 0,
             wrong: None,
