@@ -7,6 +7,7 @@ use crate::fault::Fault;
 use crate::follow::{refusal_name, size, Hearer, Reading, Row, Run, Whole};
 use crate::joined::{Joined, Silence, Span};
 use crate::output::Output;
+use crate::stream::shown_name;
 use crate::text::{count, grouped, moment, span};
 use crate::watch::Wait;
 
@@ -206,7 +207,8 @@ impl Telling {
             }
             writeln!(out)?;
         }
-        writeln!(out, "{}: {}, answers fit.", wish.log, size(whole))?;
+        let log = shown_name(&wish.log);
+        writeln!(out, "{log}: {}, answers fit.", size(whole))?;
         writeln!(out, "Verdict: {}", verdict(&self.tally, whole))
     }
 }

@@ -702,6 +702,36 @@ mod tests {
         }
     }
 
+    impl Roll {
+        /// The most in any second and the least slack over all windows, each on one clock.
+        fn windows(&self) -> (Option<u64>, Option<i128>) {
+            let (mut fullest, mut least) = (None, None::<i128>);
+            for (at, One(clock, from, ..)) in self.sent.iter().enumerate() {
+                let (mut air, mut owed) = (0, true);
+                let later = self.sent[at..].iter();
+                for One(_, to, ontime, _, owes) in later.take_while(|one| one.0 == *clock) {
+                    air += ontime;
+                    owed &= owes;
+                    if to - from < STRETCH {
+                        fullest = fullest.max(Some(air));
+                    }
+                    if owed {
+                        let slack = 3 * i128::from(to - from) + 400_000 - 100 * i128::from(air);
+                        least = Some(least.map_or(slack, |least| least.min(slack)));
+                    }
+                }
+            }
+            (fullest, least)
+        }
+
+        /// The shortest time from one run's last admission to the next one's first.
+        fn shortest(&self) -> Option<u64> {
+            let pairs = self.sent.windows(2);
+            let across = pairs.filter(|pair| pair[0].0 == pair[1].0 && pair[0].3 != pair[1].3);
+            across.map(|pair| pair[1].1 - pair[0].1).min()
+        }
+    }
+
     /// The figures of all runs together are those of all windows of all admissions.
     #[test]
     fn the_joined_figures_are_those_of_all_windows() {
@@ -710,41 +740,11 @@ mod tests {
             let mut roll = Roll::default();
             let most = [[5, 300], [23, 60_000], [60, 900], [200, 9_000]][seed as usize % 4];
             let joined = followed(seed, 1_500, most, &mut roll).joined;
-            let (mut fullest, mut least, mut shortest) = (None, None, None);
-            for (at, One(clock, from, ..)) in roll.sent.iter().enumerate() {
-                let (mut air, mut owed) = (0, true);
-                for One(other, to, ontime, _, owes) in &roll.sent[at..] {
-                    air += ontime;
-                    owed &= owes;
-                    if other == clock && to - from < STRETCH {
-                        fullest = fullest.max(Some(air));
-                    }
-                    if other == clock && owed {
-                        let slack = 3 * i128::from(to - from) + 400_000 - 100 * i128::from(air);
-                        least = Some(least.map_or(slack, |least: i128| least.min(slack)));
-                    }
-                }
-            }
-            for pair in roll.sent.windows(2) {
-                let [One(clock, from, _, run, _), One(other, to, _, next, _)] = pair else {
-                    continue;
-                };
-                if clock == other && run != next {
-                    let long = to - from;
-                    shortest = Some(shortest.map_or(long, |least: u64| least.min(long)));
-                }
-            }
-            assert_eq!(joined.fullest.map(|span| span.air), fullest, "seed {seed}");
-            assert_eq!(
-                joined.closest.map(|span| span.slack()),
-                least,
-                "seed {seed}"
-            );
-            assert_eq!(
-                joined.shortest.map(|silence| silence.long),
-                shortest,
-                "seed {seed}"
-            );
+            let fullest = joined.fullest.map(|span| span.air);
+            let least = joined.closest.map(|span| span.slack());
+            assert_eq!((fullest, least), roll.windows(), "seed {seed}");
+            let shortest = joined.shortest.map(|silence| silence.long);
+            assert_eq!(shortest, roll.shortest(), "seed {seed}");
             assert_eq!(joined.unknown, roll.unknown, "seed {seed}");
             seconds += u64::from(joined.second_broken());
             ceilings += u64::from(joined.ceiling_broken());

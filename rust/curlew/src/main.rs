@@ -10,6 +10,7 @@
 //! - [`watch`]: how near a run came to what is guaranteed
 //! - [`lives`], [`tally`]: packets followed from offer to end, and counted
 //! - [`show`], [`check`], [`plot`], [`report`], [`trace`]: the other commands
+//! - [`csv`], [`check_json`]: what programs read, as `docs/TOOLS.md` has it
 //!
 //! A log is read one record at a time, so that its length does not matter.
 

@@ -10,7 +10,7 @@ use crate::follow::{refusal_name, Hearer, Reading, Row, Run};
 use crate::output::Output;
 use crate::plain;
 use crate::progress::Progress;
-use crate::stream::{whole, Next, Records, Said};
+use crate::stream::{shown_name, whole, Next, Records, Said};
 use crate::text::{clock, five, in_ms, percent, plain_span, wrapped};
 
 /// What `curlew show` was asked for.
@@ -157,10 +157,10 @@ impl Table<'_> {
             return Ok(());
         }
         let of = match &self.wish.answers {
-            Some(answers) => format!("answers of {answers}"),
+            Some(answers) => format!("answers of {}", shown_name(answers)),
             None => "answers of the second program".to_string(),
         };
-        for name in [&format!("{},", self.wish.log), &of] {
+        for name in [&format!("{},", shown_name(&self.wish.log)), &of] {
             for line in wrapped(name, LINE) {
                 writeln!(self.output, "{line}")?;
             }

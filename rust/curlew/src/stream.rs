@@ -206,6 +206,7 @@ pub struct Answers {
     name: String,
     input: Box<dyn BufRead>,
     line: u64,
+    bytes: Vec<u8>,
 }
 
 impl Answers {
@@ -217,6 +218,7 @@ impl Answers {
             name,
             input,
             line: 0,
+            bytes: Vec::with_capacity(LONGEST_LINE + 1),
         })
     }
 
@@ -276,9 +278,10 @@ impl Answers {
     /// The next line; nothing at the end of the input.
     fn next_line(&mut self) -> Result<Option<Line>, Fault> {
         self.line += 1;
-        let mut bytes = Vec::with_capacity(LONGEST_LINE);
-        let most = LONGEST_LINE as u64 + 1;
-        let read = (&mut self.input).take(most).read_until(b'\n', &mut bytes);
+        self.bytes.clear();
+        let mut part = (&mut self.input).take(LONGEST_LINE as u64 + 1);
+        let read = part.read_until(b'\n', &mut self.bytes);
+        let bytes = &self.bytes;
         read.map_err(|error| Fault::reading(&self.name, &error))?;
         if bytes.is_empty() {
             return Ok(None);
@@ -290,9 +293,9 @@ impl Answers {
             };
         }
         if bytes.len() > LONGEST_LINE {
-            return Err(self.bad(&format!("{} is no answer", quoted(&bytes))));
+            return Err(self.bad(&format!("{} is no answer", quoted(bytes))));
         }
-        Err(self.bad(&format!("{} does not end in a newline", quoted(&bytes))))
+        Err(self.bad(&format!("{} does not end in a newline", quoted(bytes))))
     }
 
     /// A fault at the line last read.

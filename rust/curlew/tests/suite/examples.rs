@@ -47,6 +47,31 @@ fn the_proved_program_gives_the_output() {
     }
 }
 
+/// The proved program, if its path is in PRESSCURLEW_REPLAY, plays its standard input whatever its arguments are.
+#[test]
+fn the_proved_program_says_that_it_takes_no_arguments() {
+    let Some(program) = std::env::var_os("PRESSCURLEW_REPLAY") else {
+        eprintln!("PRESSCURLEW_REPLAY is not set: there is no program to look at");
+        return;
+    };
+    let note = "replay: arguments are ignored: the log is what comes on standard input\n";
+    for (words, said) in [
+        (&[][..], ""),
+        (&["jam.log"], note),
+        (&["--help", "x"], note),
+        (&[""], note),
+    ] {
+        let output = Command::new(&program)
+            .args(words)
+            .stdin(std::fs::File::open(example("sample", "log")).unwrap())
+            .output()
+            .unwrap_or_else(|error| panic!("{program:?}: {error}"));
+        assert_eq!(output.status.code(), Some(0));
+        assert_eq!(output.stdout, example_bytes("sample", "out"), "{words:?}");
+        assert_eq!(String::from_utf8(output.stderr).unwrap(), said, "{words:?}");
+    }
+}
+
 #[test]
 fn each_keeps_its_guarantees() {
     for name in EXAMPLES {
