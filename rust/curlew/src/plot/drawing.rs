@@ -72,7 +72,8 @@ impl Drawing {
 
     /// The next call of the run.
     pub fn see(&mut self, row: &Row) {
-        let now = moment(row);
+        // A call that was refused after the last one taken is at the run's end.
+        let now = moment(row).min(self.found.time);
         if row.state.is_none() || now > self.frame.to {
             return;
         }

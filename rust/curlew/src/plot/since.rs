@@ -119,10 +119,12 @@ impl Since {
         let most = self.room as f64;
         heading(svg, SINCE, self.name());
         scale(svg, SINCE, most / 1e6, &[0.0, 0.5, 1.0], 1);
-        let Frame { known: to, .. } = self.frame;
+        let Frame {
+            from, known: to, ..
+        } = self.frame;
         match &mut self.drawn {
             Drawn::Lines { all, dark } => {
-                if let Some(last) = self.last.filter(|last| *last < to) {
+                if let Some(last) = self.last.filter(|last| *last < to && from <= to) {
                     let rise = Rise {
                         frame: self.frame,
                         room: self.room,

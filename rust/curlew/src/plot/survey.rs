@@ -1,5 +1,7 @@
 //! The first reading of a log: what there is to draw of a run.
 
+use reference::rules::TIME_END;
+
 use crate::follow::{Row, Run};
 use crate::joined::HALF_TURN;
 use crate::lives::moment;
@@ -53,7 +55,7 @@ impl Survey {
         let found = self.found.get_or_insert_with(|| Found::new(run));
         found.time = match &found.wrong {
             None if row.wrong.is_none() => run.book.time(),
-            None => moment(row),
+            None => moment(row).min(TIME_END),
             Some(_) => later(found.time, self.stamp, row.record.stamp),
         };
         self.stamp = row.record.stamp;
@@ -108,7 +110,7 @@ impl Found {
 /// known, a step back is no step.
 fn later(time: u64, before: u32, stamp: u32) -> u64 {
     match stamp.wrapping_sub(before) {
-        step if step < HALF_TURN => time + u64::from(step),
+        step if step < HALF_TURN => (time + u64::from(step)).min(TIME_END),
         _ => time,
     }
 }

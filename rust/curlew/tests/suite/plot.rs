@@ -98,6 +98,25 @@ fn a_run_that_is_not_there() {
     assert_eq!(folder.names(), ["empty.log"]);
 }
 
+/// A part that starts after the fault has nothing in it but the mark.
+#[test]
+fn a_part_of_which_nothing_is_known() {
+    let folder = Folder::new();
+    let out = String::from_utf8(example_bytes("jam", "out")).unwrap();
+    let bent = folder.file("bent.out", out.replacen("SENT 106", "IDLE", 1));
+    let (log, svg) = (example("jam", "log"), folder.path("a.svg"));
+    let words = [
+        "plot", &log, &bent, "-o", &svg, "--from", "12s", "--to", "14s",
+    ];
+    curlew(&words).failed(1, "");
+    let picture = std::fs::read_to_string(&svg).unwrap();
+    assert_well_formed(&picture);
+    assert!(picture.contains(r#"class="unknown" x="104.0""#));
+    for class in ["trace", "faint", "stem", "cross", "p0 lane-line"] {
+        assert!(!picture.contains(&format!(r#"class="{class}"#)), "{class}");
+    }
+}
+
 /// Answers that don't fit make no picture; one that is wrong is where it ends.
 #[test]
 fn a_picture_ends_where_an_answer_is_wrong() {
@@ -214,6 +233,30 @@ fn the_counts_are_those_of_the_part_that_is_drawn() {
             );
         }
         assert_eq!(svg.contains("Packets sent a minute"), records > 10_000);
+    }
+}
+
+/// Offers refused after the last call that was taken are at the run's end, and counted with it.
+#[test]
+fn refused_at_the_end() {
+    let text = "make 1 at 0\npoll at +1s\n";
+    let late = "offer 7 priority 0 ontime 400 lifetime 0 at +5s\n";
+    let log = crate::help::log_of(&format!("{text}{late}{late}"));
+    for (from, to, refused) in [(0, 99_000_000, 2), (0, 999_999, 0), (1, 1_000_000, 2)] {
+        let (line, _) = counts_drawn(&log, from, to);
+        assert!(
+            line.contains(&format!(" {refused} offers refused")),
+            "{line}"
+        );
+    }
+    let mut rng = Rng::new(98);
+    for _ in 0..20 {
+        let log = busy_log(&mut rng, 60);
+        let all = offers(&log);
+        let refused = all.iter().filter(|offer| offer.end == End::Refused).count();
+        let (line, _) = counts_drawn(&log, 0, u64::MAX / 2);
+        let text = format!(" {refused} offer");
+        assert!(line.contains(&text), "{line}: {refused}");
     }
 }
 

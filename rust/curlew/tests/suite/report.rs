@@ -356,6 +356,34 @@ fn any_answers() {
     }
 }
 
+/// Any bytes are a log: there is a page and a picture of them, and a life of any packet.
+#[test]
+fn any_bytes() {
+    let mut rng = Rng::new(2_606);
+    let folder = Folder::new();
+    for turn in 0..30 {
+        let mut log: Vec<u8> = (0..16 * 60 + turn).map(|_| rng.below(256) as u8).collect();
+        for record in log.chunks_mut(16) {
+            record[0] = rng.pick(&[0, 1, 2, 2, 3, 3, 9]);
+            if let (Some(priority), true) = (record.get_mut(1), rng.below(2) == 0) {
+                *priority %= 5;
+            }
+        }
+        let out = folder.file("a.out", answers(&log));
+        let log = folder.file("a.log", &log);
+        let page = folder.path("a.html");
+        let done = curlew(&["report", &log, &out, "-o", &page]);
+        let check = curlew(&["check", &log, &out]);
+        assert_eq!(
+            (done.status, done.err.as_str()),
+            (check.status, ""),
+            "turn {turn}"
+        );
+        assert_well_formed(&std::fs::read_to_string(&page).unwrap());
+        curlew(&["trace", "--id", "0", &log, &out]).good();
+    }
+}
+
 #[test]
 fn bad_usage() {
     let folder = Folder::new();
