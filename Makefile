@@ -38,8 +38,9 @@ demo: demo-build
 	@echo
 	@$(CURLEW) check $(JAM).log target/demo/jam.out
 	@$(CURLEW) plot --title 'A jam: the channel is loud throughout' $(JAM).log target/demo/jam.out -o target/demo/jam.svg
+	@$(CURLEW) report --title 'A jam: the channel is loud throughout' $(JAM).log target/demo/jam.out -o target/demo/jam.html
 	@echo
-	@echo 'See it:      target/demo/jam.svg, in any browser'
+	@echo 'See it:      target/demo/jam.svg, in any browser; all of it on one page: target/demo/jam.html'
 	@echo 'Guarantees:  docs/LABEL.md, each number with the theorem that proves it'
 	@echo 'Your own:    examples/logs/README.md says how to write a log and play it'
 

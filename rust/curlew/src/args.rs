@@ -3,8 +3,10 @@
 use crate::fault::Fault;
 use crate::plain::{time_of, WriteWish};
 use crate::plot::PlotWish;
+use crate::report::ReportWish;
 use crate::show::{Form, ShowWish};
 use crate::stream::STANDARD;
+use crate::trace::TraceWish;
 
 const HELP: &str = "\
 curlew: make, read, check and draw call logs of the Presscurlew gate
@@ -13,6 +15,8 @@ curlew: make, read, check and draw call logs of the Presscurlew gate
   curlew show LOG [ANSWERS]                  a table: call, answer, counts, what waits, air, the wait
   curlew check LOG ANSWERS                   were ceiling and floor kept, and do the counts add up
   curlew plot LOG [ANSWERS] -o OUT.svg       a picture of a run
+  curlew report LOG ANSWERS -o OUT.html      one page: verdict, figures, counts, pictures, lost warnings
+  curlew trace --id N LOG [ANSWERS]          the life of a packet: its offers, the polls, how it left
   curlew --help | --version                  'curlew COMMAND --help' says more on one command
 
 LOG is a call log: records of 16 bytes. ANSWERS is what the program wrote for it:
@@ -128,14 +132,43 @@ const PLOT_HELP: &str = "\
 curlew plot [--run N] [--from T] [--to T] LOG [ANSWERS] -o OUT.svg: a picture of a run
 
 Over the run's time: the channel load, the level, duty or wait, what waits in each queue, what was
-sent, what expired and what was displaced, the time since the last admission beside the floor,
-and the on-time admitted in the last second beside its limit of 30 ms. LOG and ANSWERS are read
-twice, so they can't be -.
+sent, what expired, was displaced or refused, the time since the last admission beside the floor,
+and the on-time admitted in the last second beside its limit of 30 ms. The counts are those of the
+part that is drawn. Above 2,000 offers there are packets a minute, stacked by priority, and bands
+from the least to the greatest with the median, told to a 400th of the scale; so it is with the
+load above 2,000 samples, and with what passes between packets above 300 of them. Where an answer
+is wrong the picture ends and says so, and the exit status is 1. LOG and ANSWERS are read twice,
+so they can't be -.
 
   --run N      the Nth run of the log (the first)
   --from T     a part of the run: from this time on, in µs or with a unit, as 500ms or 12s
   --to T       up to this time
   --title T    a title of your own
+";
+
+const REPORT_HELP: &str = "\
+curlew report [--title T] LOG ANSWERS -o OUT.html: one page on a log and its answers
+
+The page has the verdict of 'curlew check', the label's figures and beside each what the log has,
+packets counted by priority with the longest wait, each warning (a packet of priority 0) that was
+not sent with what became of it and when, the runs, and pictures of up to 6 runs: those with wrong
+answers, then the longest. It needs no other file and no network, and prints on A4.
+
+  --title T    a title of your own
+
+200 warnings, 50 runs and 50 wrong answers are listed one by one; of more, how many they are.
+LOG and ANSWERS are read twice, so they can't be -. The page is written whatever the verdict is;
+the exit status is that of check: 1 if anything was not kept.
+";
+
+const TRACE_HELP: &str = "\
+curlew trace --id N LOG [ANSWERS]: the life of a packet
+
+For each offer of the identifier N (a host may use one again): its answer, what waited before it,
+the polls that passed it by and why (the gate was closed, another went first), and how it left and
+when: sent, expired, displaced, or still waiting. Polls in a row that found the gate closed are one
+line. Without ANSWERS, the answers are those of the second program. Exit status 1 if an answer of
+the log is wrong: from there on to the next make, what became of a packet is not known.
 ";
 
 /// What was asked for.
@@ -150,6 +183,10 @@ pub enum Command {
     Check(CheckWish),
     /// `curlew plot`.
     Plot(PlotWish),
+    /// `curlew report`.
+    Report(ReportWish),
+    /// `curlew trace`.
+    Trace(TraceWish),
 }
 
 /// What `curlew check` was asked for.
@@ -194,6 +231,8 @@ pub fn parse(words: &[String]) -> Result<Command, Fault> {
         "show" => SHOW_HELP,
         "check" => CHECK_HELP,
         "plot" => PLOT_HELP,
+        "report" => REPORT_HELP,
+        "trace" => TRACE_HELP,
         other => return Err(usage(&format!("there is no command '{other}'"))),
     };
     if rest.iter().any(|word| word == "--help" || word == "-h") {
@@ -207,6 +246,8 @@ pub fn parse(words: &[String]) -> Result<Command, Fault> {
             &["--plain", "--csv", "--brief"],
         )?),
         "check" => check(Given::of(rest, &["--faults"], &["--json"])?),
+        "report" => report(Given::of(rest, &["-o", "--title"], &[])?),
+        "trace" => trace(Given::of(rest, &["--id"], &[])?),
         _ => plot(Given::of(
             rest,
             &["-o", "--run", "--title", "--from", "--to"],
@@ -287,6 +328,39 @@ fn plot(mut given: Given) -> Result<Command, Fault> {
         from,
         to,
     }))
+}
+
+fn report(mut given: Given) -> Result<Command, Fault> {
+    given.at_most(2)?;
+    let title = given.take("--title");
+    let Some(output) = given.take("-o") else {
+        return Err(usage("-o and the name of the page are missing"));
+    };
+    let (log, answers) = given.log_and_answers()?;
+    let Some(answers) = answers else {
+        return Err(usage("the name of the ANSWERS is missing"));
+    };
+    Ok(Command::Report(ReportWish {
+        log,
+        answers,
+        output,
+        title,
+    }))
+}
+
+fn trace(mut given: Given) -> Result<Command, Fault> {
+    given.at_most(2)?;
+    let Some(id) = given.take("--id") else {
+        return Err(usage("--id and the packet's identifier are missing"));
+    };
+    let Ok(id) = id.parse::<u32>() else {
+        let most = u32::MAX;
+        return Err(usage(&format!(
+            "--id needs a number from 0 to {most}, not '{id}'"
+        )));
+    };
+    let (log, answers) = given.log_and_answers()?;
+    Ok(Command::Trace(TraceWish { id, log, answers }))
 }
 
 /// The words after the command, sorted.

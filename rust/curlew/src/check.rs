@@ -246,7 +246,7 @@ fn in_short(run: &Run) -> String {
 }
 
 /// The lines on all runs together.
-fn together(joined: &Joined) -> Vec<(&'static str, String)> {
+pub fn together(joined: &Joined) -> Vec<(&'static str, String)> {
     let mut lines = vec![("Restarts", restarts(joined))];
     let second = match joined.fullest {
         None => "KEPT: nothing was sent.".to_string(),

@@ -41,12 +41,17 @@ impl Fault {
             Fault::NotKept => ExitCode::from(1),
             Fault::NoReader => ExitCode::SUCCESS,
             Fault::Bad(text) => {
-                let line = format!("curlew: {}\n", one_line(text));
-                let _ = io::stderr().write_all(line.as_bytes()); // nobody is left to be told
+                tell(text);
                 ExitCode::from(2)
             }
         }
     }
+}
+
+/// Says a text on standard error, in one line.
+pub fn tell(text: &str) {
+    let line = format!("curlew: {}\n", one_line(text));
+    let _ = io::stderr().write_all(line.as_bytes()); // nobody is left to be told
 }
 
 /// An error in words, without the system's number.

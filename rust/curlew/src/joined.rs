@@ -16,7 +16,7 @@ use reference::book::{Book, CEILING_BASE, CEILING_SLOPE, STRETCH, STRETCH_MOST};
 use crate::follow::Run;
 
 /// A step from here on is a clock that goes back.
-const HALF_TURN: u32 = 1 << 31;
+pub const HALF_TURN: u32 = 1 << 31;
 
 /// A part of the joined clock from one admission to another, and the air time
 /// admitted in it, both ends counted.

@@ -8,7 +8,8 @@
 //! - [`joined`]: the runs of a log one after the other, on one clock
 //! - [`output`]: files and standard output, opened in one place
 //! - [`watch`]: how near a run came to what is guaranteed
-//! - [`show`], [`check`], [`plot`]: the other three commands
+//! - [`lives`], [`tally`]: packets followed from offer to end, and counted
+//! - [`show`], [`check`], [`plot`], [`report`], [`trace`]: the other commands
 //! - [`csv`], [`check_json`]: what programs read, as `docs/TOOLS.md` has it
 //!
 //! A log is read one record at a time, so that its length does not matter.
@@ -23,14 +24,18 @@ mod fault;
 mod follow;
 mod joined;
 mod json;
+mod lives;
 mod output;
 mod plain;
 mod plot;
 mod progress;
+mod report;
 mod show;
 mod stream;
 mod svg;
+mod tally;
 mod text;
+mod trace;
 mod watch;
 
 use std::process::ExitCode;
@@ -48,6 +53,8 @@ fn main() -> ExitCode {
         Command::Show(show) => show::show(&show),
         Command::Check(check) => check::check(&check),
         Command::Plot(plot) => plot::plot(&plot),
+        Command::Report(report) => report::report(&report),
+        Command::Trace(trace) => trace::trace(&trace),
     });
     match done {
         Ok(()) => ExitCode::SUCCESS,

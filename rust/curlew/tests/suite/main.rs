@@ -2,11 +2,14 @@
 
 mod bad;
 mod check;
+mod counted;
 mod evidence;
 mod examples;
 mod help;
 mod plot;
 mod programs;
+mod report;
 mod show;
+mod trace;
 mod usage;
 mod write;
