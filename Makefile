@@ -5,6 +5,7 @@ PROVED := crates.txt $(shell find crates -name '*.rt' -o -name '*.antt')
 
 help:
 	@echo 'make demo    a trailer in a jam: the gate at work, the verdict, and a picture'
+	@echo 'make label   the label as a page to print: target/label/label.html'
 	@echo 'make test    the merge gate: proofs, archives, Rust tests, C examples'
 	@echo 'make bench   calls, samples and records beside plain Rust, a record beside its call, a burst beside single offers,'
 	@echo '             the plain engine beside the gate'
@@ -38,8 +39,9 @@ demo: demo-build
 	@echo
 	@$(CURLEW) check $(JAM).log target/demo/jam.out
 	@$(CURLEW) plot --title 'A jam: the channel is loud throughout' $(JAM).log target/demo/jam.out -o target/demo/jam.svg
+	@$(CURLEW) report --title 'A jam: the channel is loud throughout' $(JAM).log target/demo/jam.out -o target/demo/jam.html
 	@echo
-	@echo 'See it:      target/demo/jam.svg, in any browser'
+	@echo 'See it:      target/demo/jam.svg, in any browser; all of it on one page: target/demo/jam.html'
 	@echo 'Guarantees:  docs/LABEL.md, each number with the theorem that proves it'
 	@echo 'Your own:    examples/logs/README.md says how to write a log and play it'
 
@@ -54,6 +56,17 @@ ifeq ($(REPLAY),target/bin/replay)
 else
 	@echo 'The proved program needs the Rattle kit (rt). Without it, the second program answers in its place.'
 endif
+
+# The first sheet is what a customer is handed. Chromium makes a PDF of it, where there is one.
+label:
+	@$(CARGO_BUILD) --package curlew
+	@mkdir -p target/label
+	@$(CURLEW) label --page docs/LABEL.md -o target/label/label.html
+	@echo 'Made target/label/label.html. Printed on A4, its first sheet is the one to hand out.'
+	@chromium=$$(command -v chromium || command -v chromium-browser || command -v google-chrome) || exit 0; \
+	"$$chromium" --headless --no-sandbox --disable-gpu --no-pdf-header-footer --print-to-pdf=target/label/label.pdf \
+	    "file://$(CURDIR)/target/label/label.html" >target/label/print.log 2>&1 && echo 'Made target/label/label.pdf.' \
+	    || echo 'No PDF was made: target/label/print.log says why.'
 
 test:
 	@bash .ci/run
@@ -86,4 +99,4 @@ target/bin/replay: $(PROVED)
 target/staticlib/lib%.a: $(PROVED)
 	rt staticlib $*
 
-.PHONY: help demo demo-build test bench bench-replay
+.PHONY: help demo demo-build label test bench bench-replay

@@ -1,6 +1,6 @@
 -- A burst's records one at a time: what a record of each kind does, that an offer's answer is told by one byte, and that a byte
 -- stored behind the answers so far is one more answer.
-use Prim.Native.Nat.{ℕ, zero, suc, _/_, _%_, _<_, _≤_}
+use Prim.Native.Nat.{ℕ, zero, suc, _/_, _%_, _<_, _≤_, min}
 use mathlib.Core.Path.{_≡_, refl, sym, ap, _∙_}
 use mathlib.Core.Bool.{true, false}
 use mathlib.Core.List.{List, [], _∷_, _++_}
@@ -65,6 +65,10 @@ first-small (c ∷ cs) h = on-cond (λ (n : ℕ). n < 256) (c .holds) (λ e. h .
 pub record Told (a : Answer) : Type 0 where
   pub byte : answerByte a < 256
   pub back : answerOf (answerByte a) ≡ a
+
+-- and its byte is the number itself
+pub fits : (n : ℕ) → n < 256 → min n 255 ≡ n
+fits n h = omega arith
 
 answer-refused : (n : ℕ) → (n ≡ 0 → ⊥) → answerOf n ≡ Refused n
 answer-refused zero h = absurd (h refl)

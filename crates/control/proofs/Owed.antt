@@ -23,7 +23,7 @@ unfolding startOf mostOntime quiet
 floors = (refl, refl, refl, refl)
 
 -- the one fact that a profile owes
-within-limits : (k : Control) (ontime : ℕ) → soundControl k ≡ true → Within (limitsOf (k .profile)) (waitOf k ontime)
+pub within-limits : (k : Control) (ontime : ℕ) → soundControl k ≡ true → Within (limitsOf (k .profile)) (waitOf k ontime)
 unfolding waitOf
 within-limits k ontime sound =
     by-profile (λ n. k .profile ≡ n → Within (limitsOf (k .profile)) (waitOf k ontime))

@@ -2,7 +2,6 @@ pub mod Known
 pub mod Walk
 pub mod Newest
 pub mod Sound
-pub mod Zeros
 pub mod Walking
 pub mod Meaning
 pub mod Worked

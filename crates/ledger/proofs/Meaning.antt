@@ -8,13 +8,13 @@ use native.Mathlib.Omega.{arith}
 use lib.ListN.{length, take, drop, set, length-append, length-map, length-drop}
 use Rattle.rules.proofs.Cases.{on-test}
 use Rattle.rules.proofs.Tests.{tested}
-use Rattle.packing.specs.Packing.{filled}
+use Rattle.packing.specs.Packing.{filled, isUnused}
 use Rattle.packing.proofs.Packing.{set-filled, filled-padded}
 use Rattle.model.specs.declared.Admission.{Admission}
 use Rattle.model.specs.Ledger.{spacing, places, youngAt, isYoung, young, airOf}
 use Rattle.model.proofs.Aging.{AllNoted, still-young}
 use Rattle.ledger.specs.declared.Ledger.{Ledger}
-use Rattle.ledger.specs.Layout.{admission, pairs, items, inPlaces, ledgerOf, packed, Packed, isUnused, tidy, agedIn, added}
+use Rattle.ledger.specs.Layout.{admission, pairs, items, inPlaces, ledgerOf, packed, Packed, tidy, agedIn, added}
 use Rattle.ledger.proofs.Walk.{length-pairs}
 use Rattle.ledger.proofs.Sound.{times-of, ontimes-of}
 

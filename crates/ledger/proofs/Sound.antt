@@ -13,13 +13,13 @@ use Rattle.rules.proofs.Cases.{both}
 use Rattle.rules.proofs.Profiles.{ontime-le}
 use Rattle.rules.proofs.Tests.{tested, all-true}
 use Rattle.rules.specs.Tests.{allOf}
-use Rattle.packing.specs.Packing.{allAre, padded}
+use Rattle.packing.specs.Packing.{allAre, padded, isUnused}
 use Rattle.packing.proofs.Packing.{padded-filled}
 use Rattle.model.specs.declared.Admission.{Admission}
 use Rattle.model.specs.declared.Last.{Last}
 use Rattle.model.specs.Ledger.{mostAir, places, airOf, admissionRules, spacedOut, isRecent, newestIs}
 use Rattle.ledger.specs.declared.Ledger.{Ledger}
-use Rattle.ledger.specs.Layout.{pairs, items, inPlaces, packed, Packed, isUnused, tidy, soundLedger, Forty}
+use Rattle.ledger.specs.Layout.{pairs, items, inPlaces, packed, Packed, tidy, soundLedger, Forty}
 use Rattle.ledger.proofs.Walk.{length-pairs}
 
 -- an admission within its limits

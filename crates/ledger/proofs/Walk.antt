@@ -5,22 +5,19 @@ use mathlib.Core.Bool.{true, false}
 use mathlib.Core.List.{List, [], _∷_}
 use native.Mathlib.Numerals.{add-one}
 use native.Mathlib.Omega.{arith}
-use lib.ListN.{length, take, drop, getD, drop-of-length-le}
-use lib.Seq.{drop-cons, getD-take, length-take-le}
+use lib.ListN.{length, take, drop, getD}
+use lib.Seq.{drop-cons}
+use Rattle.packing.proofs.Walk.{next-of, done-of}
 use Rattle.model.specs.Ledger.{youngAt}
 use Rattle.ledger.specs.Layout.{admission, pairs, added, agedIn}
 
 -- of one list
 module _ (ns : List ℕ) (n i : ℕ) (k : n ≤ length ns) where
   next : i < n → drop i (take n ns) ≡ getD ns i 0 ∷ drop (i + 1) (take n ns)
-  next h =
-      let e : i < length (take n ns) = rw length-take-le (omega arith) in
-      rw (add-one, drop-cons (take n ns) i 0, getD-take n ns i 0)
+  next h = next-of 0 ns n i h k
 
   pub done : n ≤ i → drop i (take n ns) ≡ []
-  done h =
-      let e : length (take n ns) ≤ i = rw length-take-le (omega arith) in
-      drop-of-length-le (take n ns) e
+  done h = done-of 0 ns n i h k
 
   pub added-next : i < n → added (drop i (take n ns)) ≡ getD ns i 0 + added (drop (i + 1) (take n ns))
   unfolding added

@@ -8,7 +8,7 @@ use lib.Dec.{eqb}
 use lib.ListN.{length, take, drop, set}
 use Rattle.rules.specs.Tests.{allOf}
 use Rattle.rules.specs.Clock.{endOfTime}
-use Rattle.packing.specs.Packing.{filled, padded}
+use Rattle.packing.specs.Packing.{filled, padded, isUnused}
 use Rattle.model.specs.declared.Admission.{Admission}
 use Rattle.model.specs.declared.Last.{Last}
 use Rattle.model.specs.Ledger.{fullAge, places, youngAt, isRecent, ledgerRules}
@@ -47,10 +47,6 @@ packed es =
 -- a ledger is what its admissions say
 abbrev pub Packed : Ledger → Type 0
 Packed l = l ≡ packed (items l)
-
--- "unused room zero": of one place
-abbrev pub isUnused : ℕ → Bool
-isUnused n = eqb n 0
 
 -- a length within the forty places, and zeros in the places past it
 unfoldable pub tidy : Ledger → Bool

@@ -7,6 +7,7 @@ pub mod Agree
 pub mod Known
 pub mod Packing
 pub mod Steps
+pub mod Expiring
 pub mod Removing
 pub mod Judged
 pub mod Worked

@@ -1,14 +1,14 @@
 -- A line and its list: `items` and `packed` undo each other, and a store behind the packets is one packet more, by the laws of
 -- packing for twenty places. A tidy line with twenty places is packed, since its unused room is zero.
-use Prim.Native.Nat.{ℕ, _+_, _≤_, _<_}
-use mathlib.Core.Path.{_≡_, refl, ap, sym, _∙_, subst⁻¹}
+use Prim.Native.Nat.{ℕ, zero, suc, _≤_, _<_}
+use mathlib.Core.Path.{_≡_, refl, ap, sym, _∙_}
 use mathlib.Core.Bool.{true}
 use mathlib.Core.List.{List, [], _∷_}
 use native.Mathlib.Omega.{arith}
 use lib.Dec.{leb}
-use lib.ListN.{length, drop, set, length-append}
+use lib.ListN.{length, take, drop, length-take, length-append}
 use lib.Seq.{length-take-le}
-use borrow.Author.Tests.{leb-true, le-leb}
+use borrow.Author.Tests.{leb-true, le-leb, lt-ltb, le-ltb}
 use Rattle.rules.proofs.Cases.{both}
 use Rattle.packing.specs.Packing.{allAre, padded}
 use Rattle.packing.proofs.Packing.{list-filled, set-filled, padded-filled, filled-padded}
@@ -17,7 +17,7 @@ use Rattle.model.specs.Packets.{noPacket, atBack}
 use Rattle.queue.specs.Layout.{isZero}
 use Rattle.queue.proofs.Sound.{zero-is}
 use Rattle.line.specs.declared.Line.{Line}
-use Rattle.line.specs.Layout.{places, items, packed, Packed, tidy}
+use Rattle.line.specs.Layout.{places, items, packed, Packed, pushed, tidy}
 
 pub items-packed : (ps : List Packet) → items (packed ps) ≡ ps
 unfolding packed
@@ -31,24 +31,36 @@ pub packed-length : (l : Line) → Packed l → l .len ≡ length (items l)
 unfolding packed
 packed-length l h = ap (λ (x : Line). x .len) h
 
-same-line : (l r : Line) → l .len ≡ r .len → l .packets ≡ r .packets → l ≡ r
+pub same-line : (l r : Line) → l .len ≡ r .len → l .packets ≡ r .packets → l ≡ r
 same-line l r e f = λ i. record { len = e i; packets = f i }
 
--- one packet more
-abbrev stored : Packet → Line → Line
-stored p l = record { len = l .len + 1; packets = set (l .packets) (l .len) p }
+-- a number of places that the list has taken
+take-all : (n : ℕ) (ps : List Packet) → take (length (take n ps)) ps ≡ take n ps
+take-all zero ps = refl
+take-all (suc n) [] = refl
+take-all (suc n) (p ∷ ps) = ap (λ (qs : List Packet). p ∷ qs) (take-all n ps)
 
-stored-packed : (ps : List Packet) (p : Packet) → length ps < places
-    → stored p (packed ps) ≡ packed (atBack p (items (packed ps)))
-unfolding packed
-stored-packed ps p h =
-    same-line _ _ (sym (length-append ps (p ∷ []))) (set-filled places noPacket ps p h)
-    ∙ ap (λ (x : List Packet). packed (atBack p x)) (sym (items-packed ps))
+pub held-items : (l : Line) (n : ℕ) → n ≡ length (items l) → take n (l .packets) ≡ items l
+held-items l n e = ap (λ (k : ℕ). take k (l .packets)) e ∙ take-all (l .len) (l .packets)
 
-pub pushes : (l : Line) (p : Packet) → Packed l → l .len < places → stored p l ≡ packed (atBack p (items l))
+pub held-within : (l : Line) (n : ℕ) → n ≡ length (items l) → n ≤ length (l .packets)
+held-within l n e = omega (arith, e, length-take (l .len) (l .packets))
+
+-- one packet more, where a line holds nothing but its packets and has a free place
+packed-pushed : (ps : List Packet) (p : Packet) → length ps < places → pushed p (packed ps) ≡ packed (atBack p ps)
+unfolding packed pushed
+packed-pushed ps p h =
+    rw (lt-ltb (length ps) places h)
+    (same-line _ _ (sym (length-append ps (p ∷ []))) (set-filled places noPacket ps p h))
+
+pub pushes : (l : Line) (p : Packet) → Packed l → l .len < places → pushed p l ≡ packed (atBack p (items l))
 pushes l p h k =
-    subst⁻¹ (λ (x : Line). stored p x ≡ packed (atBack p (items x))) h
-    (stored-packed (items l) p (rw (packed-length l h) at k))
+    ap (pushed p) h ∙ packed-pushed (items l) p (rw (packed-length l h) at k)
+
+-- a full line stays as it is
+pub full-stays : (l : Line) (p : Packet) → places ≤ l .len → pushed p l ≡ l
+unfolding pushed
+full-stays l p h = rw (le-ltb (l .len) places h)
 
 -- a tidy line is packed, and a packed one as tidy as its list is short
 pub tidies : (l : Line) → l .len ≤ places → allAre isZero (drop (l .len) (l .packets)) ≡ true → tidy l ≡ true

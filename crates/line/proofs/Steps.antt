@@ -1,17 +1,17 @@
 -- One turn of each walk along the packets of a line: the next packet is counted or not, is better than the best so far or not, is
 -- kept or taken away.
 use Prim.Native.Nat.{ℕ, _+_, _≤_, _<_}
-use mathlib.Core.Path.{_≡_, refl, ap, sym, _∙_}
+use mathlib.Core.Path.{_≡_, refl, sym}
 use mathlib.Core.Bool.{Bool, true, false, cond}
 use mathlib.Core.List.{List, [], _∷_, _++_, append-assoc, append-nil}
 use native.Mathlib.Omega.{arith}
-use lib.Dec.{eqb, ltb}
 use lib.ListN.{length, take, drop, getD}
-use borrow.Author.Tests.{eq-eqb, ne-eqb, lt-ltb, le-ltb}
+use borrow.Author.Tests.{eq-eqb, ne-eqb}
+use Rattle.rules.proofs.Cases.{split}
 use Rattle.model.specs.declared.Packet.{Packet}
 use Rattle.model.specs.Packets.{noPacket, chosen}
 use Rattle.queue.proofs.Walk.{next, done}
-use Rattle.line.specs.Line.{countOf, best, without, picked}
+use Rattle.line.specs.Line.{countOf, goesBefore, best, goesNext, without, picked}
 
 module _ (ps : List Packet) (n i : ℕ) (k : n ≤ length ps) where
   -- counting
@@ -30,25 +30,33 @@ module _ (ps : List Packet) (n i : ℕ) (k : n ≤ length ps) where
   counted-all priority count h = rw (done ps n i h k) (omega arith)
 
   -- picking
-  pub better : (p : Packet) → i < n → getD ps i noPacket .priority < p .priority
-      → best p (drop i (take n ps)) ≡ best (getD ps i noPacket) (drop (i + 1) (take n ps))
+  pub better : (p q : Packet) → i < n → q ≡ cond (goesBefore (getD ps i noPacket) p) (getD ps i noPacket) p
+      → best p (drop i (take n ps)) ≡ best q (drop (i + 1) (take n ps))
   unfolding best
-  better p h e = rw (next ps n i h k, lt-ltb _ _ e) refl
-
-  pub no-better : (p : Packet) → i < n → p .priority ≤ getD ps i noPacket .priority
-      → best p (drop i (take n ps)) ≡ best p (drop (i + 1) (take n ps))
-  unfolding best
-  no-better p h e = rw (next ps n i h k, le-ltb _ _ e) refl
+  better p q h e =
+      rw (next ps n i h k, e)
+      (split (goesBefore (getD ps i noPacket) p) (λ b. rw b) (λ b. rw b))
 
   pub best-all : (p : Packet) → n ≤ i → best p (drop i (take n ps)) ≡ p
   unfolding best
   best-all p h = rw (done ps n i h k) refl
 
--- the packet picked is the best of the first and those behind it
-pub picks : (ps : List Packet) (n : ℕ) (p : Packet) → n ≤ length ps → 0 < n
-    → p ≡ best (getD ps 0 noPacket) (drop 1 (take n ps)) → picked (take n ps) ≡ chosen p (without (p .priority) (take n ps))
-unfolding picked
-picks ps n p k h e = rw (e, next ps n 0 h k) refl
+-- the packet that goes next is the best of the first and those behind it; where none waits it is blank
+pub next-best : (ps : List Packet) (n : ℕ) → n ≤ length ps → 0 < n
+    → best (getD ps 0 noPacket) (drop 1 (take n ps)) ≡ goesNext (take n ps)
+unfolding goesNext
+next-best ps n k h = sym (rw (next ps n 0 h k) refl)
+
+pub next-blank : (ps : List Packet) → length ps ≡ 0 → noPacket ≡ goesNext ps
+unfolding goesNext
+next-blank [] e = refl
+next-blank (p ∷ ps) e = absurd (omega arith)
+
+-- where packets wait, it is the one picked
+pub picks : (ps : List Packet) → 0 < length ps → picked ps ≡ chosen (goesNext ps) (without (goesNext ps .priority) ps)
+unfolding picked goesNext
+picks [] h = absurd (omega arith)
+picks (p ∷ ps) h = refl
 
 -- what is to come of the packets that are left, once the first of a priority is gone, or not yet
 abbrev pub rest : Bool → ℕ → List Packet → List Packet

@@ -7,7 +7,7 @@ use lib.ListN.{length}
 use Rattle.rules.specs.Tests.{allOf}
 use Rattle.rules.specs.Profiles.{lastPriority, room}
 use Rattle.model.specs.declared.Packet.{Packet}
-use Rattle.model.specs.Packets.{withoutExpired, atBack, limitRules, inOrder}
+use Rattle.model.specs.Packets.{noPacket, withoutExpired, atBack, limitRules, inOrder}
 use Rattle.model.specs.Packets.{Chosen, nothing, chosen, Holding}
 use Rattle.model.specs.State.{Status}
 
@@ -30,6 +30,11 @@ best p (q ∷ qs) = cond (goesBefore q p) (best q qs) (best p qs)
 unfoldable pub without : (priority : ℕ) → List Packet → List Packet
 without priority [] = []
 without priority (p ∷ ps) = cond (eqb (p .priority) priority) ps (p ∷ without priority ps)
+
+-- the packet that goes next; where none waits, the blank one
+unfoldable pub goesNext : List Packet → Packet
+goesNext [] = noPacket
+goesNext (p ∷ ps) = best p ps
 
 -- "picks by walking it"
 unfoldable pub picked : List Packet → Chosen (List Packet)

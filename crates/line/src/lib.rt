@@ -1,15 +1,15 @@
 // One list of up to 20 packets in order of arrival: push, count, expire, pick, remove, sound.
 ghost use mathlib.Core.Path.{_≡_};
-ghost use mathlib.Core.Bool.{true, _&&_};
+ghost use mathlib.Core.Bool.{true, cond, _&&_};
 ghost use mathlib.Core.List.{[]};
-ghost use Prim.Native.Nat.{_<_, _≤_};
+ghost use Prim.Native.Nat.{_≤_};
 ghost use lib.Dec.{leb};
-ghost use lib.ListN.{drop};
+ghost use lib.ListN.{length, drop};
 ghost use Rattle.packing.specs.Packing.{allAre};
-ghost use Rattle.model.specs.Packets.{withoutExpired, atBack, inOrder, chosen};
+ghost use Rattle.model.specs.Packets.{withoutExpired, inOrder};
 ghost use Rattle.queue.specs.Layout.{isZero};
-ghost use Rattle.line.specs.Line.{countOf, without, picked, allowedPacket};
-ghost use Rattle.line.specs.Layout.{places, items, packed, Packed, soundLine};
+ghost use Rattle.line.specs.Line.{countOf, goesBefore, goesNext, without, allowedPacket};
+ghost use Rattle.line.specs.Layout.{places, items, packed, Packed, pushed, soundLine};
 use model::Packet;
 
 // The first `len` places hold the waiting packets in order of arrival; the others are zero.
@@ -32,13 +32,22 @@ pub fn empty() -> Line
     Line { len: 0, packets }
 }
 
-// One more packet, the last to come.
-pub fn push(mut l: Line, p: Packet) -> Line
-    requires { ⌜ Packed l ⌝ }
-    requires { ⌜ l .len < places ⌝ }
-    ensures { λ r. ⌜ r ≡ packed (atBack p (items l)) ⌝ }
+// How many packets a line holds: never more than it has places, whatever its length says.
+fn held(l: Line) -> usize
+    ensures { λ r. ⌜ (r ≡ length (items l)) × (r ≤ places) ⌝ }
 {
     let n = l.len;
+    if PLACES < n { PLACES } else { n }
+}
+
+// One more packet, the last to come; a full line stays as it is.
+pub fn push(mut l: Line, p: Packet) -> Line
+    ensures { λ r. ⌜ r ≡ pushed p l ⌝ }
+{
+    let n = l.len;
+    if PLACES <= n {
+        return l;
+    }
     l.packets[n] = p;
     l.len = n + 1;
     l
@@ -46,10 +55,9 @@ pub fn push(mut l: Line, p: Packet) -> Line
 
 // How many of a priority wait.
 pub fn count_of(l: Line, priority: u32) -> usize
-    requires { ⌜ l .len ≤ places ⌝ }
     ensures { λ r. ⌜ r ≡ countOf priority (items l) ⌝ }
 {
-    let n = l.len;
+    let n = held(l);
     let mut count: usize = 0;
     let mut i: usize = 0;
     while i < n {
@@ -64,35 +72,47 @@ pub fn count_of(l: Line, priority: u32) -> usize
 
 // The line without its expired packets.
 pub fn expire(l: Line, now: u64) -> Line
-    requires { ⌜ l .len ≤ places ⌝ }
     ensures { λ r. ⌜ r ≡ packed (withoutExpired now (items l)) ⌝ }
 {
-    let n = l.len;
+    let n = held(l);
     let mut left = empty();
+    let mut kept: usize = 0;
     let mut i: usize = 0;
     while i < n {
         let p = l.packets[i];
         if queue::is_unexpired(p, now) {
-            left = push(left, p);
+            left.packets[kept] = p;
+            kept += 1;
         }
         i += 1;
     }
+    left.len = kept;
     left
 }
 
-// The packet with the lowest priority number, of those the first to come.
-pub fn pick(l: Line) -> Packet
-    requires { ⌜ (0 < l .len) × (l .len ≤ places) ⌝ }
-    ensures { λ r. ⌜ picked (items l) ≡ chosen r (without (r .priority) (items l)) ⌝ }
+// Of two packets, of which p came first, the one that goes first.
+fn sooner(p: Packet, q: Packet) -> Packet
+    ensures { λ r. ⌜ r ≡ cond (goesBefore q p) q p ⌝ }
 {
-    let n = l.len;
+    if q.priority < p.priority {
+        return q;
+    }
+    p
+}
+
+// The packet with the lowest priority number, of those the first to come; of an empty line the blank packet.
+pub fn pick(l: Line) -> Packet
+    ensures { λ r. ⌜ r ≡ goesNext (items l) ⌝ }
+{
+    let n = held(l);
+    if n == 0 {
+        return queue::NO_PACKET;
+    }
     let mut found = l.packets[0];
     let mut i: usize = 1;
     while i < n {
         let p = l.packets[i];
-        if p.priority < found.priority {
-            found = p;
-        }
+        found = sooner(found, p);
         i += 1;
     }
     found
@@ -100,10 +120,9 @@ pub fn pick(l: Line) -> Packet
 
 // The line without the first packet of a priority.
 pub fn remove(l: Line, priority: u32) -> Line
-    requires { ⌜ l .len ≤ places ⌝ }
     ensures { λ r. ⌜ r ≡ packed (without priority (items l)) ⌝ }
 {
-    let n = l.len;
+    let n = held(l);
     let mut left = empty();
     let mut gone = false;
     let mut i: usize = 0;

@@ -1,2 +1,4 @@
 pub mod Packing
 pub mod Stores
+pub mod Walk
+pub mod Zeros

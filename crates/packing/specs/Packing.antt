@@ -3,7 +3,7 @@
 use Prim.Native.Nat.{ℕ, _-_}
 use mathlib.Core.Bool.{Bool, true, _&&_}
 use mathlib.Core.List.{List, [], _∷_, _++_}
-use lib.Dec.{leb}
+use lib.Dec.{leb, eqb}
 use lib.ListN.{length, drop, replicate}
 
 -- the array of a list: what lies past the list is zero
@@ -14,6 +14,10 @@ filled room zero xs = xs ++ replicate (room - length xs) zero
 unfoldable pub allAre : {A : Type 0} → (A → Bool) → List A → Bool
 allAre test [] = true
 allAre test (x ∷ xs) = test x && allAre test xs
+
+-- of a place that holds a number: that it is unused
+abbrev pub isUnused : ℕ → Bool
+isUnused n = eqb n 0
 
 -- a length within the capacity, judged on the length itself, and zeros in the places past it
 unfoldable pub padded : {A : Type 0} → (isZero : A → Bool) → (room len : ℕ) → List A → Bool

@@ -1,7 +1,7 @@
 -- A poll of the plain engine: nothing waits, or the packet picked waits for the wait or for the air, or it goes; and where it
 -- goes the ledger has room, since the state that it leaves is sound.
 use Prim.Native.Nat.{ℕ, _≤_, _<_, max}
-use mathlib.Core.Path.{_≡_, refl, ap, sym, _∙_, subst}
+use mathlib.Core.Path.{_≡_, refl, ap, sym, _∙_, subst⁻¹}
 use mathlib.Core.Bool.{true, false}
 use mathlib.Core.List.{List, [], _∷_}
 use native.Mathlib.Omega.{arith}
@@ -24,9 +24,10 @@ use Rattle.model.proofs.Sound.{test-view, forty-are-enough}
 use Rattle.model.proofs.Closing.{may-send}
 use Rattle.ledger.specs.declared.Ledger.{Ledger}
 use Rattle.ledger.specs.Layout as ledger
-use Rattle.line.specs.Line.{inList, Listed, without, picked, listRules}
+use Rattle.line.specs.Line.{inList, Listed, goesNext, without, picked, listRules}
 use Rattle.line.specs.Layout.{items, packed}
 use Rattle.line.specs.Same.{inParts}
+use Rattle.line.proofs.Steps.{picks}
 use Rattle.line.proofs.Rules.{picked-ontime}
 use Rattle.line.proofs.Agree.{sound-tied, parts-sound, sound-lists-agree}
 use Rattle.plain.specs.declared.State.{State}
@@ -39,12 +40,17 @@ use Rattle.plain.proofs.Doing.{says}
 abbrev laid : Result inList → Outcome
 laid o = outcome (stateOf (o .view)) (o .answer)
 
--- the packet picked
-pub picks-at : (a : State) (w : Listed) (p : Packet) → a ≡ stateOf w
-    → picked (items (a .line)) ≡ chosen p (without (p .priority) (items (a .line)))
+-- how many wait, and the packet picked
+len-of : (a : State) (w : Listed) → a ≡ stateOf w → a .line .len ≡ length (w .waiting)
+unfolding packed
+len-of a w e = ap (λ (x : State). x .line .len) e
+
+pub picks-at : (a : State) (w : Listed) (p : Packet) → a ≡ stateOf w → (a .line .len ≡ 0 → ⊥) → p ≡ goesNext (items (a .line))
     → picked (w .waiting) ≡ chosen p (without (p .priority) (w .waiting))
-picks-at a w p e f =
-    subst (λ (v : Listed). picked (v .waiting) ≡ chosen p (without (p .priority) (v .waiting))) (says a w e) f
+picks-at a w p e h f =
+    subst⁻¹ (λ (q : Packet). picked (w .waiting) ≡ chosen q (without (q .priority) (w .waiting)))
+    (f ∙ ap (λ (v : Listed). goesNext (v .waiting)) (says a w e))
+    (picks (w .waiting) (omega (arith, h, len-of a w e)))
 
 pub packets-of : (w : Listed) → sound w ≡ true → allOf (listRules (w .control .profile) (w .clock .time) (w .waiting)) ≡ true
 unfolding sound
@@ -64,10 +70,6 @@ none-picked : (ps : List Packet) → length ps ≡ 0 → picked ps ≡ nothing
 unfolding picked
 none-picked [] e = refl
 none-picked (p ∷ ps) e = absurd (omega arith)
-
-len-of : (a : State) (w : Listed) → a ≡ stateOf w → a .line .len ≡ length (w .waiting)
-unfolding packed
-len-of a w e = ap (λ (x : State). x .line .len) e
 
 pub idles : (a : State) (w : Listed) → a ≡ stateOf w → a .line .len ≡ 0
     → outcome a Idle ≡ laid (polled w (picked (w .waiting)))

@@ -2,21 +2,25 @@
 // W-212).
 ghost use mathlib.Core.Path.{_≡_};
 ghost use mathlib.Core.Bool.{true, _&&_};
+ghost use mathlib.Core.List.{[], _∷_, _++_};
 ghost use lib.Dec.{leb, eqb};
 ghost use lib.ListN.{length};
-ghost use Prim.Native.Nat.{_≤_, _<_, max};
+ghost use Prim.Native.Nat.{_-_, _≤_, _<_, max};
 ghost use Rattle.rules.specs.Profiles.{lastPriority, room};
 ghost use Rattle.rules.specs.Refusals.{firstOf};
+ghost use Rattle.rules.specs.Clock.{endOfTime};
 ghost use Rattle.control.specs.Control.{controlOf};
 ghost use Rattle.model.specs.declared.Answer.the-variants.{Refused};
 ghost use Rattle.model.specs.Calls.{words, count, offer, poll};
+ghost use Rattle.model.specs.Ledger.{mostAir, young, airOf, allowedFrom};
 ghost use Rattle.model.specs.State.{blank, notLive};
 ghost use Rattle.model.specs.Effects.{moved, refreshed, roomMade, joined, waitLeft, airLeft, admits};
 ghost use Rattle.model.specs.Gate.{roomChecks};
+ghost use Rattle.ledger.specs.Layout as ledger;
 ghost use Rattle.line.specs.Line.{countOf, without};
-ghost use Rattle.line.specs.Layout.{places, items};
+ghost use Rattle.line.specs.Layout.{items};
 ghost use Rattle.plain.specs.Layout.{viewOf, stateOf, LaidOut, soundState, Given, outcome, callOn};
-ghost use Rattle.plain.specs.Layout.{makeState, entryNumber, forty};
+ghost use Rattle.plain.specs.Layout.{makeState, entryNumber, InOrder, forty};
 ghost use Rattle.plain.specs.Bursts.{offeredBy, burstState, burstAnswers};
 ghost use Rattle.calllog.specs.Bursts.{burstNumber};
 ghost use Rattle.plain.specs.Runs.{Agrees};
@@ -31,8 +35,6 @@ use model::Last;
 use model::Offer;
 use model::Packet;
 use rules::Sample;
-
-pub mod second;
 
 // One engine's state. `oldway` is 1 where an offer of a priority of which five wait is refused, 0 where it
 // displaces the first of those. `live` is 1, or 0 before a make that was not refused.
@@ -57,13 +59,57 @@ pub struct Outcome {
 
 // Whether an offer is refused for lack of room: only in an engine made in the old way.
 fn refuses_full(oldway: u32, l: Line, priority: u32) -> bool
-    requires { ⌜ l .len ≤ places ⌝ }
     ensures { λ r. ⌜ r ≡ (eqb oldway 1 && leb room (countOf priority (items l))) ⌝ }
 {
     if oldway != 1 {
         return false;
     }
     line::MOST_OF_A_PRIORITY <= line::count_of(l, priority)
+}
+
+// Whether a ledger is sound.
+fn is_ledger_sound(l: Ledger, profile: u32, time: u64, last: Last) -> bool
+    requires { ⌜ time ≤ endOfTime ⌝ }
+    ensures { λ r. ⌜ r ≡ ledger.soundLedger profile time last l ⌝ }
+{
+    ledger::is_sound(l.len, &l.ats, &l.ontimes, profile, time, last)
+}
+
+// The ledger without the admissions that have aged.
+fn age(mut l: Ledger, time: u64) -> Ledger
+    requires { ⌜ ledger.Packed l ⌝ }
+    requires { ⌜ InOrder (ledger.items l) ⌝ }
+    ensures { λ r. ⌜ r ≡ ledger.packed (young time (ledger.items l)) ⌝ }
+{
+    let n = l.len;
+    let gone = ledger::count_aged(n, &l.ats, time);
+    ledger::drop_times(n, &mut l.ats, gone);
+    ledger::drop_ontimes(n, &mut l.ontimes, gone);
+    l.len = n - gone;
+    l
+}
+
+// The ledger with one more admission.
+fn note(mut l: Ledger, at: u64, ontime: u32) -> Ledger
+    requires { ⌜ ledger.Packed l ⌝ }
+    requires { ⌜ l .len < forty ⌝ }
+    ensures { λ r. ⌜ r ≡ ledger.packed (ledger.items l ++ (ledger.admission at ontime ∷ [])) ⌝ }
+{
+    let n = l.len;
+    l.ats[n] = at;
+    l.ontimes[n] = ontime;
+    l.len = n + 1;
+    l
+}
+
+// The µs until the air allows a packet.
+fn air_left(l: Ledger, ontime: u32, time: u64) -> u64
+    requires { ⌜ l .len ≤ forty ⌝ }
+    requires { ⌜ airOf (ledger.items l) ≤ mostAir ⌝ }
+    requires { ⌜ ledger.Timely (ledger.items l) ⌝ }
+    ensures { λ r. ⌜ r ≡ allowedFrom ontime time (ledger.items l) - time ⌝ }
+{
+    ledger::air_left(l.len, &l.ats, &l.ontimes, ontime, time)
 }
 
 // What a burst leaves: the state, and the number that refuses it, or 0.
@@ -107,7 +153,7 @@ impl State {
             return false;
         }
         let ledger = self.ledger;
-        second::is_sound(ledger, profile, now, last)
+        is_ledger_sound(ledger, profile, now, last)
     }
 
     // A refusal hands back the given state unchanged.
@@ -147,7 +193,7 @@ impl State {
         let given = self.clock;
         let clock = decide::clock_at(given, stamp);
         let ledger = self.ledger;
-        self.ledger = second::age(ledger, clock.time);
+        self.ledger = age(ledger, clock.time);
         self.clock = clock;
         self
     }
@@ -202,7 +248,6 @@ impl State {
     // Once the expired are gone: 8 where five of a priority wait in the old way, 11 where too many were
     // accepted, or 0.
     fn room_refusal(self, priority: u32) -> u32
-        requires { ⌜ Given self ⌝ }
         ensures { λ r. ⌜ r ≡ firstOf (roomChecks (self .oldway) (countOf priority (items (self .line)))
             (self .counts .accepted)) ⌝ }
     {
@@ -266,7 +311,7 @@ impl State {
         let now = self.clock.time;
         let closed = control::closed_after(self.profile, self.tuning, last.ontime);
         let left = decide::left_of(closed, last, now);
-        let late = second::air_left(self.ledger, p.ontime, now);
+        let late = air_left(self.ledger, p.ontime, now);
         decide::longer(left, late)
     }
 
@@ -278,7 +323,7 @@ impl State {
     {
         let now = self.clock.time;
         self.line = line::remove(self.line, p.priority);
-        self.ledger = second::note(self.ledger, now, p.ontime);
+        self.ledger = note(self.ledger, now, p.ontime);
         let last = Last {
             at: now,
             ontime: p.ontime,
@@ -352,7 +397,7 @@ pub fn burst(mut state: State, records: &[u8], answers: &mut [u8]) -> BurstTurn
     let n = records.len() / calllog::RECORD_BYTES;
     let mut i: usize = 0;
     while i < n {
-        let rec = calllog::read_record(records, calllog::RECORD_BYTES * i);
+        let rec = calllog::record_at(records, calllog::RECORD_BYTES * i);
         let outcome = offered(state, rec);
         let next = outcome.state;
         let answer = outcome.answer;

@@ -10,13 +10,15 @@ use reference::log::{read, step, LogCall, Record};
 use reference::state::{Packet, State};
 
 use crate::fault::Fault;
+use crate::joined::Joined;
 use crate::plain::way;
 use crate::progress::Progress;
-use crate::stream::{whole, Answers, Next, Records, Said};
-use crate::text::{count, grouped, seconds, span};
+use crate::stream::{refuse_one_pipe, whole, Answers, Next, Records, Said};
+use crate::text::{count, grouped, moment, span};
 use crate::watch::Watch;
 
 /// One run: a make that was not refused, and the calls up to the next make.
+#[derive(Clone)]
 pub struct Run {
     /// 1 for the first run of the log.
     pub number: u64,
@@ -28,12 +30,29 @@ pub struct Run {
     pub first: u64,
     /// The number of the last record seen.
     pub last: u64,
-    /// The run's book.
+    /// The time from the last accepted call of the run before to its make,
+    /// where the stamps tell it.
+    pub pause: Option<u64>,
+    /// Where its make is on the clock of the runs before it; 0 if there is no
+    /// pause.
+    pub start: u64,
+    /// The run's book, as it was before the first wrong answer.
     pub book: Book,
-    /// How near it came to what is guaranteed.
+    /// How near it came to what is guaranteed, up to the first wrong answer.
     pub watch: Watch,
-    /// The first thing that was wrong. The book has no use after it.
-    pub wrong: Option<String>,
+    /// How many of its answers were wrong.
+    pub faults: u64,
+    /// The first of them.
+    pub wrong: Option<Wrong>,
+}
+
+/// An answer that was wrong.
+#[derive(Clone, Debug, PartialEq, Eq)]
+pub struct Wrong {
+    /// The number of its record.
+    pub record: u64,
+    /// What is wrong, with the record's number and call before it.
+    pub text: String,
 }
 
 /// A record with its answer, and where the run then is.
@@ -48,8 +67,11 @@ pub struct Row<'a> {
     pub wrong: Option<&'a str>,
     /// The run, if there is one.
     pub run: Option<&'a Run>,
-    /// The second program's state after the call.
-    pub state: &'a State,
+    /// The run's book after the call; nothing from a wrong answer on to the next
+    /// make, as nobody knows what the gate that gave it then held.
+    pub book: Option<&'a Book>,
+    /// The second program's state after the call, as long as the gate's is that.
+    pub state: Option<&'a State>,
     /// The packet that the poll sent.
     pub sent: Option<Packet>,
     /// The packet that the offer displaced.
@@ -61,8 +83,10 @@ pub struct Follower {
     state: State,
     runs: u64,
     run: Option<Run>,
-    /// The first thing that was wrong before a run.
-    loose: Option<String>,
+    /// Whether no answer since the last make was wrong.
+    known: bool,
+    loose: u64,
+    joined: Joined,
 }
 
 /// What hears of each record, and of each run's end.
@@ -71,59 +95,84 @@ pub trait Hearer {
     fn row(&mut self, row: &Row) -> Result<(), Fault>;
     /// A run is over: a make follows, or the log ends.
     fn run_over(&mut self, run: &Run) -> Result<(), Fault>;
+    /// Whether it has heard enough: then no more is read.
+    fn enough(&self) -> bool {
+        false
+    }
 }
 
-/// A log that was read to its end.
+/// A log that was read to its end, or until its hearer had enough.
 pub struct Whole {
-    /// How many records it has.
+    /// How many records were read.
     pub records: u64,
     /// How many runs.
     pub runs: u64,
+    /// Whether it was read to its end.
+    pub ended: bool,
     /// The bytes left over.
     pub left_over: Vec<u8>,
-    /// Something wrong outside of all runs.
-    pub loose: Option<String>,
+    /// How many answers outside of all runs were wrong.
+    pub loose: u64,
+    /// All runs together.
+    pub joined: Joined,
 }
 
-/// Follows a log with its answers; without, the second program gives them.
+/// A log and its answers, opened.
+pub struct Reading {
+    records: Records,
+    answers: Option<Answers>,
+    progress: Progress,
+}
+
+impl Reading {
+    /// Opens a log and its answers.
+    pub fn open(doing: &'static str, log: &str, answers: Option<&str>) -> Result<Reading, Fault> {
+        if let Some(answers) = answers {
+            refuse_one_pipe(log, answers)?;
+        }
+        Ok(Reading {
+            records: Records::open(log)?,
+            answers: answers.map(Answers::open).transpose()?,
+            progress: Progress::new(doing, whole(log)),
+        })
+    }
+
+    /// Follows the log; without answers, the second program gives them.
+    pub fn follow(mut self, hearer: &mut dyn Hearer) -> Result<Whole, Fault> {
+        let mut follower = Follower::new();
+        let mut number = 0;
+        while !hearer.enough() {
+            match self.records.next()? {
+                Next::Record(record) => {
+                    number += 1;
+                    let said = match &mut self.answers {
+                        Some(answers) => Some(answers.answer(number)?),
+                        None => None,
+                    };
+                    follower.feed(number, &record, said, hearer)?;
+                    self.progress.at(number);
+                }
+                Next::End(left_over) => {
+                    if let Some(answers) = &mut self.answers {
+                        answers.end(number, left_over.len())?;
+                    }
+                    follower.end_run(hearer)?;
+                    return Ok(follower.whole(number, Some(left_over)));
+                }
+            }
+        }
+        Ok(follower.whole(number, None))
+    }
+}
+
+/// Opens a log with its answers and follows it.
 pub fn follow(
     doing: &'static str,
     log: &str,
     answers: Option<&str>,
     hearer: &mut dyn Hearer,
 ) -> Result<Whole, Fault> {
-    let mut records = Records::open(log)?;
-    let mut answers = answers.map(Answers::open).transpose()?;
-    let mut progress = Progress::new(doing, whole(log));
-    let mut follower = Follower::new();
-    let mut number = 0;
-    loop {
-        match records.next()? {
-            Next::Record(record) => {
-                number += 1;
-                let said = match &mut answers {
-                    Some(answers) => Some(answers.answer(number)?),
-                    None => None,
-                };
-                follower.feed(number, &record, said, hearer)?;
-                progress.at(number);
-            }
-            Next::End(left_over) => {
-                if let Some(answers) = &mut answers {
-                    answers.end(number, left_over.len())?;
-                }
-                if let Some(run) = &follower.run {
-                    hearer.run_over(run)?;
-                }
-                return Ok(Whole {
-                    records: number,
-                    runs: follower.runs,
-                    left_over,
-                    loose: follower.loose,
-                });
-            }
-        }
-    }
+    Reading::open(doing, log, answers)?.follow(hearer)
 }
 
 impl Follower {
@@ -132,8 +181,33 @@ impl Follower {
             state: State::default(),
             runs: 0,
             run: None,
-            loose: None,
+            known: true,
+            loose: 0,
+            joined: Joined::default(),
         }
+    }
+
+    /// What was read, and the bytes left over if that was all.
+    fn whole(self, records: u64, left_over: Option<Vec<u8>>) -> Whole {
+        Whole {
+            records,
+            runs: self.runs,
+            ended: left_over.is_some(),
+            left_over: left_over.unwrap_or_default(),
+            loose: self.loose,
+            joined: self.joined,
+        }
+    }
+
+    /// The run is over, if there is one.
+    fn end_run(&mut self, hearer: &mut dyn Hearer) -> Result<(), Fault> {
+        let Some(over) = self.run.take() else {
+            return Ok(());
+        };
+        if over.faults == 0 {
+            self.joined.over(&over);
+        }
+        hearer.run_over(&over)
     }
 
     /// The next record, with the answer given.
@@ -148,95 +222,144 @@ impl Follower {
         self.state = state;
         let right = Said::of(&right);
         let said = said.unwrap_or(right);
-        let mut sent = None;
-        let mut wrong = None;
         if record.kind == 0 {
-            if let Some(over) = self.run.take() {
-                hearer.run_over(&over)?;
-            }
+            self.end_run(hearer)?;
+            self.known = true;
             if said == Said::Ready {
                 self.runs += 1;
-                self.run = Some(Run::new(self.runs, number, record));
+                let (pause, start) = self.joined.make(record.stamp, self.runs == 1);
+                self.run = Some(Run::new(self.runs, number, record, pause, start));
             }
         }
-        match &mut self.run {
-            Some(run) => {
-                run.last = number;
-                if run.wrong.is_none() {
-                    let judged = run.judge(record, said, right, &mut sent);
-                    // The book's own counts add up: it has looked at that itself.
-                    let judged = judged.and_then(|()| run.book.compare(&self.state.counts));
-                    let judged = judged.and_then(|()| run.book.compare_ledger(&self.state.ledger));
-                    wrong = judged.err().map(|text| placed(number, record, &text));
-                    run.wrong.clone_from(&wrong);
-                }
-            }
-            None => {
-                wrong = outside(said, right)
-                    .err()
-                    .map(|text| placed(number, record, &text));
-                if self.loose.is_none() {
-                    self.loose.clone_from(&wrong);
-                }
-            }
-        }
+        let judged = self.judge(number, record, said, right);
+        let wrong = judged.as_ref().err().map(String::as_str);
+        let known = self.known;
+        let book = self.run.as_ref().map(|run| &run.book).filter(|_| known);
         // Only of a call that was taken has the book just heard.
-        let taken = self.run.as_ref().filter(|_| said == Said::Taken);
-        let displaced = taken.and_then(|run| run.book.displaced());
+        let taken = book.filter(|_| said == Said::Taken);
+        let displaced = taken.and_then(Book::displaced);
         hearer.row(&Row {
             number,
             record: *record,
             said,
-            wrong: wrong.as_deref(),
+            wrong,
             run: self.run.as_ref(),
-            state: &self.state,
-            sent,
+            book,
+            state: Some(&self.state).filter(|_| known),
+            sent: judged.as_ref().ok().copied().flatten(),
             displaced: displaced.map(|entry| entry.packet),
         })
+    }
+
+    /// Judges an answer: the packet sent, or what is wrong. After a wrong answer
+    /// nobody knows what the gate holds, but what it should have answered is
+    /// known all the same: that goes by the log alone.
+    fn judge(
+        &mut self,
+        number: u64,
+        record: &Record,
+        said: Said,
+        right: Said,
+    ) -> Result<Option<Packet>, String> {
+        let judged = match &mut self.run {
+            _ if !self.known => compare(said, right).map(|()| None),
+            Some(run) => run.judge(record, said, right, &self.state),
+            None => outside(said, right).map(|()| None),
+        };
+        if let Some(run) = &mut self.run {
+            run.last = number;
+        }
+        match judged {
+            Ok(sent) => {
+                if let (Some(packet), Some(run)) = (sent, &self.run) {
+                    let (joined, ontime) = (&mut self.joined, packet.ontime);
+                    joined.admitted(number, run.number, run.start, ontime, &run.book);
+                }
+                Ok(sent)
+            }
+            Err(text) => {
+                let text = placed(number, record, &text);
+                self.note(number, &text);
+                Err(text)
+            }
+        }
+    }
+
+    /// Notes a wrong answer, from which on nothing is known.
+    fn note(&mut self, record: u64, text: &str) {
+        self.known = false;
+        self.joined.lost();
+        let Some(run) = &mut self.run else {
+            self.loose += 1;
+            return;
+        };
+        run.faults += 1;
+        run.wrong.get_or_insert_with(|| Wrong {
+            record,
+            text: text.to_string(),
+        });
     }
 }
 
 impl Run {
-    fn new(number: u64, first: u64, make: &Record) -> Run {
+    fn new(number: u64, first: u64, make: &Record, pause: Option<u64>, start: u64) -> Run {
         Run {
             number,
             profile: u32::from(make.priority),
             oldway: make.lifetime,
             first,
             last: first,
+            pause,
+            start,
             book: Book::new(u32::from(make.priority), make.stamp),
             watch: Watch::default(),
+            faults: 0,
             wrong: None,
         }
     }
 
-    /// Feeds the book, looks at what it can't see, and last compares with the
-    /// second program.
+    /// Judges an answer of a run in which nothing was wrong so far, and gives
+    /// the packet sent. A wrong answer leaves the book as it is: a copy of it
+    /// says what would be broken.
     fn judge(
         &mut self,
         record: &Record,
         said: Said,
         right: Said,
-        sent: &mut Option<Packet>,
-    ) -> Result<(), String> {
+        state: &State,
+    ) -> Result<Option<Packet>, String> {
+        if said != right {
+            self.clone().hear(record, said)?;
+            compare(said, right)?;
+        }
+        let sent = self.hear(record, said)?;
+        // The book's own counts add up: it has looked at that itself.
+        self.book.compare(&state.counts)?;
+        self.book.compare_ledger(&state.ledger)?;
+        Ok(sent)
+    }
+
+    /// Feeds the book, and looks at what it can't see.
+    fn hear(&mut self, record: &Record, said: Said) -> Result<Option<Packet>, String> {
         if let Said::Refused(refusal) = said {
             self.watch.refused(refusal);
-        } else if let Some(call) = call_of(record) {
-            let answer = self.answer(&call, said)?;
-            if let Answer::Sent(packet) = answer {
-                *sent = Some(packet);
-            }
-            let fed = self.book.feed(&call, &answer);
-            fed.map_err(|text| self.plainer(&text, *sent))?;
-            self.watch.accepted(&call, *sent, &self.book)?;
-        } else if record.kind != 0 {
-            return Err(format!(
-                "{} to a record of kind {}",
-                said.line(),
-                record.kind
-            ));
+            return Ok(None);
         }
-        compare(said, right)
+        let Some(call) = call_of(record) else {
+            return match record.kind {
+                0 => Ok(None),
+                kind => Err(format!("{} to a record of kind {kind}", said.line())),
+            };
+        };
+        let answer = self.answer(&call, said)?;
+        let sent = match answer {
+            Answer::Sent(packet) => Some(packet),
+            _ => None,
+        };
+        let fed = self.book.feed(&call, &answer);
+        fed.map_err(|text| self.plainer(&text, sent))?;
+        self.watch.accepted(&call, sent, &self.book)?;
+        Ok(sent)
     }
 
     /// The answer as the book takes it: SENT with the whole packet, which is
@@ -286,9 +409,9 @@ impl Run {
                 )
             }
             (text, Some(_)) if text.starts_with("second") => format!(
-                "second: {} admitted in the second up to {} s, where {} is allowed",
+                "second: {} admitted in the second up to {}, where {} is allowed",
                 span(self.book.on_air()),
-                seconds(self.book.time()),
+                moment(self.book.time()),
                 span(STRETCH_MOST)
             ),
             (text, Some(_)) if text.starts_with("gap") => format!(
@@ -300,13 +423,17 @@ impl Run {
         }
     }
 
-    /// What the run was: its records, profile and length.
+    /// What the run was: its records, profile and length, as far as it is known.
     pub fn title(&self) -> String {
+        let known = match self.wrong {
+            None => "",
+            Some(_) => " to the last right answer",
+        };
         format!(
-            "profile {}{}, {} s, records {} to {}",
+            "profile {}{}, {}{known}, records {} to {}",
             self.profile,
             way(self.oldway),
-            seconds(self.book.time()),
+            moment(self.book.time()),
             grouped(self.first),
             grouped(self.last)
         )
@@ -505,14 +632,24 @@ mod tests {
 
     #[test]
     fn the_closest_calls_are_those_of_all_windows() {
-        let mut rng = Rng::new(34);
         let mut ledger = Ledger::default();
+        let follower = followed(34, 20_000, [400, 60_000], &mut ledger);
+        assert_eq!((ledger.runs, follower.runs), (49, 50));
+    }
+
+    /// Follows random calls, with a make each so many of them, and steps of less than so many µs.
+    fn followed(seed: u64, records: u64, most: [u64; 2], hearer: &mut dyn Hearer) -> Follower {
+        let [each, step] = most;
+        let mut rng = Rng::new(seed);
         let mut follower = Follower::new();
         let mut stamp = 0u32;
-        for number in 1..=20_000 {
+        for number in 1..=records {
             let profile = 1 + rng.below(4) as u8;
-            stamp = stamp.wrapping_add(rng.below(60_000) as u32);
-            let made = number % 400 == 1;
+            stamp = stamp.wrapping_add(rng.below(step) as u32);
+            let made = number % each == 1;
+            if made && seed % 3 == 0 && rng.below(8) == 0 {
+                stamp = stamp.wrapping_sub(rng.below(9) as u32); // the count went back
+            }
             let record = Record {
                 kind: if made { 0 } else { rng.pick(&[1, 2, 2, 3, 3]) },
                 priority: if made { profile } else { rng.below(4) as u8 },
@@ -525,9 +662,95 @@ mod tests {
                 id: rng.below(300) as u32,
                 stamp,
             };
-            let fed = follower.feed(number, &record, None, &mut ledger);
-            assert!(fed.is_ok());
+            assert!(follower.feed(number, &record, None, hearer).is_ok());
         }
-        assert_eq!(ledger.runs, 49);
+        follower
+    }
+
+    /// An admission: the clock it is on, when, its on-time, its run, and whether that owes the ceiling.
+    #[derive(Clone, Copy)]
+    struct One(u64, u64, u64, u64, bool);
+
+    /// Keeps all admissions of all runs.
+    #[derive(Default)]
+    struct Roll {
+        sent: Vec<One>,
+        clock: u64,
+        unknown: u64,
+    }
+
+    impl Hearer for Roll {
+        fn row(&mut self, row: &Row) -> Result<(), Fault> {
+            let (Some(run), Some(book)) = (row.run, row.book) else {
+                return Ok(());
+            };
+            if row.record.kind == 0 && run.pause.is_none() {
+                self.clock += 1;
+                self.unknown += u64::from(run.number > 1);
+            }
+            if let Some(packet) = row.sent {
+                let (at, ontime) = (run.start + book.time(), u64::from(packet.ontime));
+                let owes = book.owes_ceiling();
+                self.sent
+                    .push(One(self.clock, at, ontime, run.number, owes));
+            }
+            Ok(())
+        }
+
+        fn run_over(&mut self, _run: &Run) -> Result<(), Fault> {
+            Ok(())
+        }
+    }
+
+    impl Roll {
+        /// The most in any second and the least slack over all windows, each on one clock.
+        fn windows(&self) -> (Option<u64>, Option<i128>) {
+            let (mut fullest, mut least) = (None, None::<i128>);
+            for (at, One(clock, from, ..)) in self.sent.iter().enumerate() {
+                let (mut air, mut owed) = (0, true);
+                let later = self.sent[at..].iter();
+                for One(_, to, ontime, _, owes) in later.take_while(|one| one.0 == *clock) {
+                    air += ontime;
+                    owed &= owes;
+                    if to - from < STRETCH {
+                        fullest = fullest.max(Some(air));
+                    }
+                    if owed {
+                        let slack = 3 * i128::from(to - from) + 400_000 - 100 * i128::from(air);
+                        least = Some(least.map_or(slack, |least| least.min(slack)));
+                    }
+                }
+            }
+            (fullest, least)
+        }
+
+        /// The shortest time from one run's last admission to the next one's first.
+        fn shortest(&self) -> Option<u64> {
+            let pairs = self.sent.windows(2);
+            let across = pairs.filter(|pair| pair[0].0 == pair[1].0 && pair[0].3 != pair[1].3);
+            across.map(|pair| pair[1].1 - pair[0].1).min()
+        }
+    }
+
+    /// The figures of all runs together are those of all windows of all admissions.
+    #[test]
+    fn the_joined_figures_are_those_of_all_windows() {
+        let (mut seconds, mut ceilings) = (0, 0);
+        for seed in 1..=40 {
+            let mut roll = Roll::default();
+            let most = [[5, 300], [23, 60_000], [60, 900], [200, 9_000]][seed as usize % 4];
+            let joined = followed(seed, 1_500, most, &mut roll).joined;
+            let fullest = joined.fullest.map(|span| span.air);
+            let least = joined.closest.map(|span| span.slack());
+            assert_eq!((fullest, least), roll.windows(), "seed {seed}");
+            let shortest = joined.shortest.map(|silence| silence.long);
+            assert_eq!(shortest, roll.shortest(), "seed {seed}");
+            assert_eq!(joined.unknown, roll.unknown, "seed {seed}");
+            seconds += u64::from(joined.second_broken());
+            ceilings += u64::from(joined.ceiling_broken());
+        }
+        // Both kinds of log were there: those that break it, and those that don't.
+        assert!((1..40).contains(&ceilings), "{ceilings}");
+        assert!((1..40).contains(&seconds), "{seconds}");
     }
 }

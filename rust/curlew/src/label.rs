@@ -4,10 +4,13 @@
 
 use std::fs;
 
-use reference::book::{floor, COLUMN_ROOM};
-use reference::rules::{on_time_max, profile_known};
+use reference::book::{floor, owes_ceiling, COLUMN_ROOM, STRETCH, STRETCH_MOST};
+use reference::rules::{
+    on_time_max, profile_known, wait, wait_from, WaitFrom, DUTY_MOST, GAP_LEAST,
+};
 
 use crate::fault::Fault;
+use crate::output::Output;
 use crate::page::page;
 use crate::text::{count, grouped, say, span};
 
@@ -30,10 +33,16 @@ pub struct Asked {
     pub before: u64,
     /// So many messages a minute are to go.
     pub messages: Option<u64>,
+    /// A stretch of time, in µs, in which the trailer is on air.
+    pub stretch: Option<u64>,
 }
 
-/// A minute, in µs.
+/// A minute and an hour, in µs.
 const MINUTE: u64 = 60_000_000;
+const HOUR: u64 = 3_600_000_000;
+
+/// The longest stretch that is asked about: more than 30 years.
+const STRETCH_LONGEST: u64 = 1_000_000_000_000_000;
 
 /// The longest step of the radio's clock from one call to the next that the gate takes.
 const STEP_MOST: u64 = (1 << 31) - 1;
@@ -42,8 +51,11 @@ pub fn label(wish: &LabelWish) -> Result<(), Fault> {
     match wish {
         LabelWish::Figures(asked) => say(&figures(asked)?),
         LabelWish::Page { input, output } => {
-            let markdown = fs::read_to_string(input).map_err(|error| Fault::file(input, &error))?;
-            fs::write(output, page(&markdown)?).map_err(|error| Fault::file(output, &error))
+            let mut output = Output::open(output, &[input])?;
+            let markdown =
+                fs::read_to_string(input).map_err(|error| Fault::reading(input, &error))?;
+            output.put(page(&markdown)?.as_bytes())?;
+            output.done()
         }
     }
 }
@@ -56,6 +68,34 @@ fn longest_wait(asked: &Asked) -> u64 {
 /// The messages of one trailer in a minute: those whose waits, of floor and poll each, are over before it is.
 fn per_minute(asked: &Asked) -> u64 {
     (MINUTE - 1) / (floor(asked.profile) + asked.poll)
+}
+
+/// The longest packet of a profile.
+fn longest(profile: u32) -> u64 {
+    on_time_max(profile).map_or(0, u64::from)
+}
+
+/// The most that a profile is on air in any stretch: the least of what its shortest wait leaves, of 30 ms for each
+/// second begun, and of the ceiling where it is promised.
+fn most(profile: u32, stretch: u64) -> u64 {
+    let by_second = stretch.div_ceil(STRETCH) * STRETCH_MOST;
+    let held = by_second.min(by_waits(profile, stretch));
+    if !owes_ceiling(profile) {
+        return held;
+    }
+    held.min((3 * (stretch - 1) + 400_000) / 100)
+}
+
+/// As many longest packets as start in the stretch, and what a shorter one more can add.
+fn by_waits(profile: u32, stretch: u64) -> u64 {
+    let longest = longest(profile);
+    let least = wait(profile, 0, DUTY_MOST, 1, 0).map_or(0, u64::from);
+    let stride = match wait_from(profile) {
+        Some(WaitFrom::End) => longest + least,
+        _ => least,
+    };
+    let (whole, rest) = ((stretch - 1) / stride, (stretch - 1) % stride);
+    (whole + 1) * longest + rest.saturating_sub(least)
 }
 
 fn judge(asked: &Asked) -> Result<(), Fault> {
@@ -74,6 +114,13 @@ fn judge(asked: &Asked) -> Result<(), Fault> {
         return Err(Fault::bad(
             "--before is 0 to 4: five packets of a priority fit into the gate",
         ));
+    }
+    if let Some(stretch) = asked.stretch {
+        if !(GAP_LEAST..=STRETCH_LONGEST).contains(&stretch) {
+            return Err(Fault::bad(
+                "--stretch is 25 ms to 10^15 µs: shorter ones have no figure of their own",
+            ));
+        }
     }
     Ok(())
 }
@@ -95,8 +142,8 @@ fn figures(asked: &Asked) -> Result<String, Fault> {
          more of priority 0 are taken while it waits, or the gate was made to keep the oldest.\n"
     ));
     text.push_str(&of_the_site(asked));
-    let longest = on_time_max(asked.profile).unwrap_or(0);
-    text.push_str(&line("Longest packet", &span(u64::from(longest))));
+    text.push_str(&line("Longest packet", &span(longest(asked.profile))));
+    text.push_str(&on_air(asked));
     text.push_str("\ndocs/LABEL.md has all of it: what the guarantee needs, and the theorem of each number.\n");
     Ok(text)
 }
@@ -117,6 +164,20 @@ fn of_the_site(asked: &Asked) -> String {
     }
     text.push_str(&line(&head, &grouped(messages.div_ceil(one))));
     text.push_str("  If all are of this profile, each is polled so, and something waits at each of its polls.\n");
+    text
+}
+
+/// How much of some stretches the trailer is on air.
+fn on_air(asked: &Asked) -> String {
+    let named = [("second", STRETCH), ("minute", MINUTE), ("hour", HOUR)];
+    let named = named.map(|(name, stretch)| (name.to_string(), stretch));
+    let own = asked.stretch.map(|stretch| (span(stretch), stretch));
+    let mut text = String::new();
+    for (name, stretch) in named.into_iter().chain(own) {
+        let head = format!("On air in any {name}, at most");
+        text.push_str(&line(&head, &span(most(asked.profile, stretch))));
+    }
+    text.push_str("  If its computer waits a second after each restart before it polls, and keeps the profile.\n");
     text
 }
 

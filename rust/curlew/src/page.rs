@@ -12,7 +12,7 @@ const SHEET: &str = "<!-- sheet -->";
 const ALL: &str = "<!-- all -->";
 
 const STYLE: &str = "\
-@page { size: A4; margin: 12mm 14mm; }
+@page { size: A4; margin: 10mm 13mm; }
 body { font: 15px/1.45 Georgia, 'Times New Roman', serif; color: #111; max-width: 60em; margin: 1.5em auto;
   padding: 0 1em; }
 h1, h2, th, td { font-family: Helvetica, Arial, sans-serif; }
@@ -28,6 +28,8 @@ code { font-family: 'DejaVu Sans Mono', Menlo, Consolas, monospace; font-size: .
 hr { border: 0; border-top: 2px solid #111; margin: 2em 0; }
 @media print {
   body { font-size: 9.6pt; line-height: 1.32; margin: 0; padding: 0; max-width: none; }
+  .sheet { font-size: 8.2pt; line-height: 1.25; }
+  .sheet th, .sheet td { padding: .12em .5em; }
   .wide { overflow: visible; }
   table, blockquote { break-inside: avoid; }
   table.long { break-inside: auto; }
@@ -202,7 +204,13 @@ pub fn is_rule(line: &str) -> bool {
     line.chars().all(|c| "|-: ".contains(c))
 }
 
+/// A row; one that has a name and nothing else is a heading over those below it.
 fn table_row(cells: &[&str], tag: &str) -> String {
+    let (name, rest) = (inline(cells[0]), &cells[1..]);
+    if tag == "td" && !rest.is_empty() && rest.iter().all(|cell| cell.is_empty()) {
+        let wide = cells.len();
+        return format!("<tr><td colspan=\"{wide}\">{name}</td></tr>\n");
+    }
     let cells: String = cells
         .iter()
         .map(|cell| format!("<{tag}>{}</{tag}>", inline(cell)))
@@ -293,12 +301,14 @@ mod tests {
 
     #[test]
     fn tables_have_a_head_and_whole_rows() {
-        let html = page("# T\n<!-- sheet -->\n| a | b |\n|---|---|\n| 1 | |\n").unwrap();
+        let html = page("# T\n<!-- sheet -->\n| a | b |\n|---|---|\n| 1 | 2 |\n| 3 | |\n").unwrap();
         assert!(
             html.contains("<thead><tr><th>a</th><th>b</th></tr>"),
             "{html}"
         );
-        assert!(html.contains("<tr><td>1</td><td></td></tr>"), "{html}");
+        assert!(html.contains("<tr><td>1</td><td>2</td></tr>"), "{html}");
+        let over = "<tr><td colspan=\"2\">3</td></tr>";
+        assert!(html.contains(over), "{html}");
         for bad in [
             "| a | b |\n| 1 | 2 |",
             "| a | b |\n|---|---|\n| 1 |",

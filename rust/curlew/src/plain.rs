@@ -1,15 +1,15 @@
 //! The plain text form of a log: one call a line. `curlew write` turns it into
 //! records, and `curlew show --plain` turns records back into it.
 
-use std::fs::File;
-use std::io::{self, BufRead, BufWriter, Write};
+use std::io::{self, BufRead};
 
 use reference::log::{Record, RECORD_BYTES};
 use reference::rules::{NEW_WAY, OLD_WAY, PROBES};
 
 use crate::fault::Fault;
+use crate::output::Output;
 use crate::progress::Progress;
-use crate::stream::{open, STANDARD};
+use crate::stream::{open, shown_name};
 use crate::text::quoted;
 
 /// What `curlew write` was asked for.
@@ -37,45 +37,13 @@ const LONGEST_LINE: u64 = 4_096;
 /// text with an error leaves what was there.
 pub fn write(wish: &WriteWish) -> Result<(), Fault> {
     let mut input = open(&wish.input)?;
-    let name = if wish.input == STANDARD {
-        "standard input"
-    } else {
-        &wish.input
-    };
-    if wish.output == STANDARD {
-        let mut output = BufWriter::new(io::stdout().lock());
-        records(&mut input, name, &mut output)?;
-        return Ok(output.flush()?);
-    }
-    whole_file(&wish.output, |output| records(&mut input, name, output))
-}
-
-/// Writes a file that comes to be only as a whole.
-pub fn whole_file(
-    name: &str,
-    write: impl FnOnce(&mut dyn Write) -> Result<(), Fault>,
-) -> Result<(), Fault> {
-    let cannot = |error: io::Error| Fault::file(name, &error);
-    let there = std::fs::metadata(name);
-    if there.is_ok_and(|data| !data.is_file()) {
-        // A folder says so by itself; a device or a pipe takes what comes.
-        let mut output = BufWriter::new(File::create(name).map_err(cannot)?);
-        write(&mut output)?;
-        return output.flush().map_err(cannot);
-    }
-    let half = format!("{name}.half");
-    let mut output = BufWriter::new(File::create(&half).map_err(cannot)?);
-    let written = write(&mut output)
-        .and_then(|()| output.flush().map_err(cannot))
-        .and_then(|()| std::fs::rename(&half, name).map_err(cannot));
-    if written.is_err() {
-        let _ = std::fs::remove_file(&half); // it may not be there any more
-    }
-    written
+    let mut output = Output::open(&wish.output, &[&wish.input])?;
+    records(&mut input, &shown_name(&wish.input), &mut output)?;
+    output.done()
 }
 
 /// Writes the records of a plain text.
-fn records(input: &mut dyn BufRead, name: &str, output: &mut dyn Write) -> Result<(), Fault> {
+fn records(input: &mut dyn BufRead, name: &str, output: &mut Output) -> Result<(), Fault> {
     let mut reader = Reader::default();
     let mut progress = Progress::new("write", None);
     let mut bytes = Vec::new();
@@ -84,14 +52,14 @@ fn records(input: &mut dyn BufRead, name: &str, output: &mut dyn Write) -> Resul
         bytes.clear();
         let mut part = io::Read::take(&mut *input, LONGEST_LINE);
         let got = part.read_until(b'\n', &mut bytes);
-        let got = got.map_err(|error| Fault::file(name, &error))?;
+        let got = got.map_err(|error| Fault::reading(name, &error))?;
         if got == 0 {
             break;
         }
-        let read = line_text(&bytes).and_then(|text| reader.line(text));
+        let read = line_text(&bytes, number).and_then(|text| reader.line(text));
         match read {
             Ok(Some(part)) => {
-                output.write_all(&part)?;
+                output.put(&part)?;
                 written += 1;
                 progress.at(written);
             }
@@ -102,12 +70,16 @@ fn records(input: &mut dyn BufRead, name: &str, output: &mut dyn Write) -> Resul
     Ok(())
 }
 
-/// The text of a line, its end taken off.
-fn line_text(bytes: &[u8]) -> Result<&str, String> {
+/// The text of a line; of the first without the mark that some editors put there.
+fn line_text(bytes: &[u8], number: u64) -> Result<&str, String> {
     if bytes.len() as u64 == LONGEST_LINE && !bytes.ends_with(b"\n") {
         return Err(format!("the line is longer than {LONGEST_LINE} bytes"));
     }
-    std::str::from_utf8(bytes).map_err(|_| format!("{} is no text", quoted(bytes)))
+    let text = std::str::from_utf8(bytes).map_err(|_| format!("{} is no text", quoted(bytes)))?;
+    match number {
+        1 => Ok(text.strip_prefix('\u{FEFF}').unwrap_or(text)),
+        _ => Ok(text),
+    }
 }
 
 /// Reads line by line, for a stamp may be told by the one before it.
@@ -366,19 +338,35 @@ fn number_of(word: &str) -> Option<u64> {
     Some(digits.parse().unwrap_or(u64::MAX)) // too long for 64 bits is too large for any field
 }
 
-/// A time in µs: a number, or one with us, ms or s after it.
+/// A time in µs: a number, or one with us, µs, ms, s, min or h after it, and
+/// then with digits after a point as well, as long as it is whole µs.
 pub fn time_of(word: &str) -> Option<u64> {
-    let (digits, unit) = match word.find(|c: char| c.is_ascii_alphabetic()) {
-        Some(at) => word.split_at(at),
-        None => (word, "us"),
-    };
+    let end = word.find(|c: char| !matches!(c, '0'..='9' | '_' | '.'));
+    let (digits, unit) = word.split_at(end.unwrap_or(word.len()));
     let unit = match unit {
-        "us" => 1,
+        "" | "us" | "µs" | "μs" => 1,
         "ms" => 1_000,
         "s" => 1_000_000,
+        "min" => 60_000_000,
+        "h" => 3_600_000_000,
         _ => return None,
     };
-    Some(number_of(digits)?.saturating_mul(unit))
+    let Some((whole, part)) = digits.split_once('.') else {
+        return Some(number_of(digits)?.saturating_mul(unit));
+    };
+    let part = part_of(part, unit)?;
+    Some(number_of(whole)?.saturating_mul(unit).saturating_add(part))
+}
+
+/// So many parts of a unit, told by the digits after the point; none if that is
+/// no whole number of µs.
+fn part_of(digits: &str, unit: u64) -> Option<u64> {
+    let number = number_of(digits)?;
+    let places = digits.bytes().filter(|b| b.is_ascii_digit()).count();
+    let whole = 10u64.checked_pow(u32::try_from(places).ok()?)?;
+    let parts = u128::from(number) * u128::from(unit);
+    let whole = u128::from(whole);
+    (parts % whole == 0).then_some((parts / whole) as u64) // below the unit
 }
 
 fn no_number(word: &str, what: &str) -> String {
@@ -433,6 +421,15 @@ pub fn way(number: u32) -> String {
         NEW_WAY => String::new(),
         OLD_WAY => format!(" {KEEPS}"),
         other => format!(" {WAY} {other}"),
+    }
+}
+
+/// The way of a make as a word, the default too.
+pub fn way_name(number: u32) -> String {
+    match number {
+        NEW_WAY => DROPS.to_string(),
+        OLD_WAY => KEEPS.to_string(),
+        other => format!("{WAY} {other}"),
     }
 }
 
@@ -550,6 +547,50 @@ mod tests {
     }
 
     #[test]
+    fn times_have_units() {
+        for (text, time) in [
+            ("400", 400),
+            ("400us", 400),
+            ("400µs", 400),
+            ("400\u{3bc}s", 400), // the Greek letter, which some keyboards give
+            ("1.5ms", 1_500),
+            ("1.5s", 1_500_000),
+            ("0.000001s", 1),
+            ("1.50_0s", 1_500_000),
+            ("1_000ms", 1_000_000),
+            ("2min", 120_000_000),
+            ("0.5h", 1_800_000_000),
+            ("1h", 3_600_000_000),
+            ("99999999999999999999h", u64::MAX),
+        ] {
+            assert_eq!(time_of(text), Some(time), "{text}");
+        }
+        for text in [
+            "",
+            "s",
+            "µs",
+            ".5s",
+            "5.s",
+            "1.2.3s",
+            "1.5",
+            "1.5µs",
+            "0.0000001s",
+            "1e3",
+            "1 s",
+            "-1s",
+            "+1s",
+            "_1s",
+            "1.5d",
+            "1.5S",
+            "1,5s",
+            "0x1",
+            "1.00000000000000000000s",
+        ] {
+            assert_eq!(time_of(text), None, "{text}");
+        }
+    }
+
+    #[test]
     fn blank_lines_and_comments_are_nothing() {
         for text in ["", "  ", "# make 1 at 0", "\t#", "\n", "\r\n"] {
             assert_eq!(Reader::default().line(text), Ok(None));
@@ -576,7 +617,10 @@ mod tests {
             ),
             ("make 1 at 0 0", "'0' is one word too many"),
             ("make 1 at +5", "'+5' needs a stamp before it"),
-            ("make 1 at 5h", "'5h' is no number for the stamp"),
+            ("make 1 at 5d", "'5d' is no number for the stamp"),
+            ("make 1 at 2h", "the stamp is too large"),
+            ("make 1 at 1.5", "'1.5' is no number for the stamp"),
+            ("make 1 at 1.s", "'1.s' is no number for the stamp"),
             ("make 1 drop-oldest", "'at' and its stamp are missing"),
             ("make 1 oldest at 0", "'oldest' where 'at' is due"),
             (

@@ -1,12 +1,15 @@
 //! Records and answers, read one at a time.
 
-use std::fs::File;
+use std::fs::{self, File, FileType};
 use std::io::{self, BufRead, BufReader, Read};
+use std::os::fd::AsFd;
+use std::os::unix::fs::FileTypeExt;
 
 use reference::gate::Answer;
 use reference::log::{Record, RECORD_BYTES};
 
 use crate::fault::Fault;
+use crate::output::place;
 use crate::text::{count, grouped, quoted};
 
 /// Bytes read at a time.
@@ -25,7 +28,7 @@ pub fn open(name: &str) -> Result<Box<dyn BufRead>, Fault> {
             io::stdin().lock(),
         )));
     }
-    let file = File::open(name).map_err(|error| Fault::file(name, &error))?;
+    let file = File::open(name).map_err(|error| Fault::reading(name, &error))?;
     let folder = file.metadata().is_ok_and(|data| data.is_dir());
     if folder {
         return Err(Fault::bad(format!("{name}: it is a folder")));
@@ -37,6 +40,44 @@ pub fn open(name: &str) -> Result<Box<dyn BufRead>, Fault> {
 pub fn whole(name: &str) -> Option<u64> {
     let data = std::fs::metadata(name).ok().filter(|data| data.is_file())?;
     Some(data.len() / RECORD_BYTES as u64)
+}
+
+/// Refuses two inputs that are one pipe: each would get a part of what comes.
+pub fn refuse_one_pipe(log: &str, answers: &str) -> Result<(), Fault> {
+    let pipe = kind(log).is_some_and(|kind| kind.is_fifo() || kind.is_socket());
+    if pipe && place(log) == place(answers) {
+        let (log, answers) = (shown_name(log), shown_name(answers));
+        return Err(Fault::bad(format!(
+            "{log} and {answers} are one pipe: LOG and ANSWERS must come from two places"
+        )));
+    }
+    Ok(())
+}
+
+/// Refuses an input that can't be read twice, for a command that does so.
+pub fn refuse_streams(doing: &str, inputs: &[&str]) -> Result<(), Fault> {
+    match inputs.iter().find(|input| !rereadable(input)) {
+        None => Ok(()),
+        Some(input) => Err(Fault::bad(format!(
+            "{}: {doing} reads its input twice, and this can be read only once; write it to a file first",
+            shown_name(input)
+        ))),
+    }
+}
+
+/// Whether a second reading gives the same; where nothing is, opening it says so.
+fn rereadable(name: &str) -> bool {
+    let kind = kind(name);
+    name != STANDARD && kind.is_none_or(|kind| kind.is_file() || kind.is_dir())
+}
+
+/// What kind of thing an input is.
+fn kind(name: &str) -> Option<FileType> {
+    if name == STANDARD {
+        let input = io::stdin().as_fd().try_clone_to_owned().ok()?;
+        return Some(File::from(input).metadata().ok()?.file_type());
+    }
+    Some(fs::metadata(name).ok()?.file_type())
 }
 
 /// The records of a log.
@@ -70,7 +111,7 @@ impl Records {
                 Ok(0) => return Ok(Next::End(bytes[..got].to_vec())),
                 Ok(more) => got += more,
                 Err(error) if error.kind() == io::ErrorKind::Interrupted => {}
-                Err(error) => return Err(Fault::file(&self.name, &error)),
+                Err(error) => return Err(Fault::reading(&self.name, &error)),
             }
         }
         Ok(Next::Record(Record::from_bytes(&bytes)))
@@ -165,6 +206,7 @@ pub struct Answers {
     name: String,
     input: Box<dyn BufRead>,
     line: u64,
+    bytes: Vec<u8>,
 }
 
 impl Answers {
@@ -176,6 +218,7 @@ impl Answers {
             name,
             input,
             line: 0,
+            bytes: Vec::with_capacity(LONGEST_LINE + 1),
         })
     }
 
@@ -228,17 +271,18 @@ impl Answers {
                 self.line += 1;
                 Err(self.bad(&format!("there is more after {}", word(right))))
             }
-            Err(error) => Err(Fault::file(&self.name, &error)),
+            Err(error) => Err(Fault::reading(&self.name, &error)),
         }
     }
 
     /// The next line; nothing at the end of the input.
     fn next_line(&mut self) -> Result<Option<Line>, Fault> {
         self.line += 1;
-        let mut bytes = Vec::with_capacity(LONGEST_LINE);
-        let most = LONGEST_LINE as u64 + 1;
-        let read = (&mut self.input).take(most).read_until(b'\n', &mut bytes);
-        read.map_err(|error| Fault::file(&self.name, &error))?;
+        self.bytes.clear();
+        let mut part = (&mut self.input).take(LONGEST_LINE as u64 + 1);
+        let read = part.read_until(b'\n', &mut self.bytes);
+        let bytes = &self.bytes;
+        read.map_err(|error| Fault::reading(&self.name, &error))?;
         if bytes.is_empty() {
             return Ok(None);
         }
@@ -249,9 +293,9 @@ impl Answers {
             };
         }
         if bytes.len() > LONGEST_LINE {
-            return Err(self.bad(&format!("{} is no answer", quoted(&bytes))));
+            return Err(self.bad(&format!("{} is no answer", quoted(bytes))));
         }
-        Err(self.bad(&format!("{} does not end in a newline", quoted(&bytes))))
+        Err(self.bad(&format!("{} does not end in a newline", quoted(bytes))))
     }
 
     /// A fault at the line last read.
@@ -270,7 +314,7 @@ fn word(line: Line) -> String {
 }
 
 /// The name of an input, for a message.
-fn shown_name(name: &str) -> String {
+pub fn shown_name(name: &str) -> String {
     if name == STANDARD {
         "standard input".to_string()
     } else {

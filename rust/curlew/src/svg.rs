@@ -5,6 +5,7 @@ use std::fmt::Write;
 /// The text of a picture under way.
 pub struct Svg {
     text: String,
+    description: String,
     width: f64,
     height: f64,
 }
@@ -23,12 +24,17 @@ pub enum Anchor {
 impl Svg {
     /// An empty picture of this size.
     pub fn new(width: f64, height: f64) -> Svg {
-        let text = String::new();
         Svg {
-            text,
+            text: String::new(),
+            description: String::new(),
             width,
             height,
         }
+    }
+
+    /// What the picture shows, for those who can't see it.
+    pub fn describe(&mut self, text: String) {
+        self.description = text;
     }
 
     /// Adds a line of SVG as it is.
@@ -74,19 +80,29 @@ impl Svg {
         }
     }
 
-    /// The whole picture, with its name, its description and its style.
-    pub fn whole(&self, name: &str, description: &str, style: &str) -> String {
+    /// The whole picture as a file, with its name and its style.
+    pub fn whole(&self, name: &str, style: &str) -> String {
         let (width, height) = (self.width, self.height);
+        let size = format!(r#"width="{width}" height="{height}""#);
+        self.element(name, &size, &format!("<style>\n{style}</style>\n"))
+    }
+
+    /// The picture as a part of a page, which has its style.
+    pub fn part(&self, name: &str) -> String {
+        self.element(name, r#"class="picture""#, "")
+    }
+
+    fn element(&self, name: &str, attributes: &str, style: &str) -> String {
         format!(
             concat!(
-                r#"<svg xmlns="http://www.w3.org/2000/svg" width="{w}" height="{h}" viewBox="0 0 {w} {h}" role="img">"#,
-                "\n<title>{name}</title>\n<desc>{description}</desc>\n<style>\n{style}</style>\n",
-                "{text}</svg>\n"
+                r#"<svg xmlns="http://www.w3.org/2000/svg" {attributes} viewBox="0 0 {w} {h}" role="img">"#,
+                "\n<title>{name}</title>\n<desc>{description}</desc>\n{style}{text}</svg>\n"
             ),
-            w = width,
-            h = height,
+            attributes = attributes,
+            w = self.width,
+            h = self.height,
             name = escaped(name),
-            description = escaped(description),
+            description = escaped(&self.description),
             style = style,
             text = self.text
         )
@@ -135,33 +151,6 @@ impl Trace {
         self.last = Some((x, y));
         if self.here.len() > 12 {
             self.thin();
-        }
-    }
-
-    /// A step from where the line is to this height.
-    pub fn step(&mut self, x: f64, y: f64) {
-        if let Some((_, before)) = self.last {
-            if before == y {
-                return;
-            }
-            self.point(x, before);
-        }
-        self.point(x, y);
-    }
-
-    /// On to this place without a change of height.
-    pub fn level(&mut self, x: f64) {
-        if let Some((_, y)) = self.last {
-            self.point(x, y);
-        }
-    }
-
-    /// Forgets what was drawn, and starts at this place with the height reached.
-    pub fn restart(&mut self, x: f64) {
-        let height = self.last.map(|(_, y)| y);
-        *self = Trace::default();
-        if let Some(y) = height {
-            self.point(x, y);
         }
     }
 
@@ -228,9 +217,11 @@ mod tests {
     fn a_short_line_keeps_its_points() {
         let mut trace = Trace::default();
         trace.point(0.0, 1.0);
-        trace.step(10.0, 2.0);
-        trace.level(20.0);
-        assert_eq!(trace.path(), "M0.0 1.0L10.0 1.0L10.0 2.0L20.0 2.0");
+        trace.point(10.0, 1.0);
+        trace.stop();
+        trace.point(10.0, 2.0);
+        trace.point(20.0, 2.0);
+        assert_eq!(trace.path(), "M0.0 1.0L10.0 1.0M10.0 2.0L20.0 2.0");
     }
 
     #[test]

@@ -6,7 +6,7 @@ use reference::book::{Book, Entry, CEILING_BASE, CEILING_SLOPE};
 use reference::gate::Call;
 use reference::state::Packet;
 
-use crate::text::{seconds, span};
+use crate::text::{moment, span};
 
 /// A window of the run, and the air time admitted in it.
 #[derive(Clone, Copy, Debug, PartialEq, Eq)]
@@ -29,10 +29,10 @@ impl Window {
     /// Where it is, in words.
     pub fn place(&self) -> String {
         if self.from == self.to {
-            return format!("one packet at {} s", seconds(self.to));
+            return format!("one packet at {}", moment(self.to));
         }
         let width = span(self.to - self.from);
-        format!("the {width} from {} s on", seconds(self.from))
+        format!("the {width} from {} on", moment(self.from))
     }
 
     /// The air time that the ceiling allows in it, in whole µs.
@@ -78,6 +78,8 @@ pub struct Watch {
     pub samples: u64,
     /// Accepted polls.
     pub polls: u64,
+    /// The on-times admitted, all together, in µs.
+    pub air: u64,
     /// Refusals, by number; the last place has those of no known number.
     pub refusals: [u64; 13],
     /// The window whose slack is the smallest.
@@ -178,6 +180,7 @@ impl Watch {
 
     /// An admission now.
     fn admitted(&mut self, now: u64, ontime: u32) {
+        self.air += u64::from(ontime);
         let tightest = self.tightest_with(now, ontime);
         self.tightest = Some(tightest);
         if self

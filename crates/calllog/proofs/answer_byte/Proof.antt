@@ -1,6 +1,4 @@
 -- Each answer's byte is the clause of its case.
-use mathlib.Core.Path.{ap}
-use native.Mathlib.Omega.{arith}
 use borrow.Author.Needs.{needs}
 use Rattle.calllog.specs.Bursts.{answerByte}
 use Rattle.calllog.proofs.answer_byte.Statement.{statement}
@@ -24,9 +22,8 @@ enum-told-5 c = search needs
 enum-known-answer : tie.Need-enum-known-answer
 enum-known-answer c = search needs
 
-cast-result : tie.Need-cast-result
-unfolding answerByte
-cast-result c = omega (arith, rw (c .before .answer .given .1) at (c .before .before .before .pre))
+low-byte-requires : tie.Need-low-byte-requires
+low-byte-requires c κs = search needs
 
 returns : tie.Need-returns
 unfolding answerByte
@@ -50,7 +47,7 @@ returns-5 c = rw (c .enum-told5 .given .1)
 
 returns-6 : tie.Need-returns-6
 unfolding answerByte
-returns-6 c = rw (c .before .answer .given .1)
+returns-6 c = rw (c .before .before .answer .given .1) (c .low-byte .ensures)
 
 pub answer-byte-spec : {M : Type 1} → statement M
 answer-byte-spec =
@@ -62,7 +59,7 @@ answer-byte-spec =
     enum-told-4
     enum-told-5
     enum-known-answer
-    cast-result
+    low-byte-requires
     returns
     returns-2
     returns-3

@@ -1,6 +1,6 @@
 -- The loop keeps: the state and the answers are those of the first i records, and the test made at the start still tells whether
 -- that state is sound.
-use Prim.Native.Nat.{ℕ, _+_, _*_, _-_, _/_, _≤_, _<_}
+use Prim.Native.Nat.{ℕ, _+_, _*_, _-_, _/_, _≤_, _<_, min}
 use mathlib.Core.Path.{_≡_, refl, sym, ap, ap₂, _∙_}
 use mathlib.Core.Logic.{⊎-elim}
 use mathlib.Core.Bool.{true}
@@ -12,12 +12,13 @@ use denote.Ref.{now}
 use lib.ListN.{length, set, length-set}
 use Rattle.gate.specs.declared.Outcome.{Outcome}
 use Rattle.gate.specs.Layout.{soundState, outcome}
+use Rattle.calllog.specs.Records.{recordBytes, recordAt}
 use Rattle.calllog.specs.Buffers.{written}
 use Rattle.calllog.specs.Bursts.{offeredBy, answerByte, offeredAt, offeredTo, answersTo}
 use Rattle.calllog.specs.Bursts.{burstNumber, isAccepted, burstState, burstAnswers}
 use Rattle.calllog.proofs.Asking.{asks-offer, step-call}
 use Rattle.calllog.proofs.Soundness.{call-keeps}
-use Rattle.calllog.proofs.Bursts.{offered-call, offered-other, offered-unsound, record-told, answers-length}
+use Rattle.calllog.proofs.Bursts.{offered-call, offered-other, offered-unsound, record-told, fits, answers-length}
 use Rattle.calllog.proofs.Bursts.{has-room, behind}
 use borrow.Author.Needs.{needs}
 use Rattle.calllog.proofs.burst.Statement.{statement}
@@ -92,11 +93,7 @@ done c =
     (c .if2 .came)
 
 answer-byte-requires : tie.Need-answer-byte-requires Inv-loop μ-loop
-answer-byte-requires c κs =
-    let met = c .before .before .before .before .loop .state in
-    let rec = c .before .before .read-record .result in
-    let told : answerByte (offeredBy met rec .answer) < 256 = record-told met rec .byte in
-    rw (sym (ap (λ (x : Outcome). answerByte (x .answer)) (done c .0))) at told
+answer-byte-requires c κs = search needs
 
 lies-inside :
     (c : tie.After-answer-byte Inv-loop μ-loop)
@@ -133,8 +130,9 @@ loop-again c =
     let rec = c .before .before .before .read-record in
     let e : outcome (c .before .if2 .state) (c .before .if2 .answer) ≡ offeredAt (offeredTo given records i) records i =
     done (c .before) .0 ∙ ap₂ offeredBy (l .inv .2) (rec .ensures) in
+    let told = record-told (offeredTo given records i) (recordAt records (recordBytes * i)) in
     let byte : c .answer-byte .result ≡ answerByte (offeredAt (offeredTo given records i) records i .answer) =
-    c .answer-byte .ensures ∙ ap (λ (x : Outcome). answerByte (x .answer)) e in (
+    c .answer-byte .ensures ∙ ap (λ (x : Outcome). min (answerByte (x .answer)) 255) e ∙ fits _ (told .byte) in (
       omega arith,
       length-set (l .answers) i (c .answer-byte .result) ∙ l .inv .1,
       rw add-one (ap (λ (x : Outcome). x .state) e),

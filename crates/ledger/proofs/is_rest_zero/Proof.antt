@@ -7,10 +7,9 @@ use lib.Dec.{eqb}
 use borrow.Author.Needs.{needs}
 use borrow.Author.Tests.{eq-eqb, ne-eqb}
 use native.Mathlib.Omega.{arith}
-use Rattle.packing.specs.Packing.{allAre}
+use Rattle.packing.specs.Packing.{allAre, isUnused}
+use Rattle.packing.proofs.Zeros.{ZerosPast, zeros-next, zeros-done}
 use Rattle.model.specs.Ledger.{places}
-use Rattle.ledger.specs.Layout.{isUnused}
-use Rattle.ledger.proofs.Zeros.{ZerosPast, zeros-next, zeros-done}
 use Rattle.ledger.proofs.is_rest_zero.Statement.{statement}
 use Rattle.ledger.proofs.is_rest_zero.Tie as tie
 

@@ -1,11 +1,11 @@
 -- The loop's invariant: the count so far, and the count of the packets that are left.
 use Prim.Native.Nat.{_+_, _-_, _≤_}
-use mathlib.Core.Path.{_≡_, _∙_, sym, ap, refl}
+use mathlib.Core.Path.{_≡_, _∙_, ap}
 use mathlib.Core.Logic.{⊎-elim}
 use lib.ListN.{length, take, drop}
 use native.Mathlib.Omega.{arith}
 use Rattle.line.specs.Line.{countOf}
-use Rattle.line.proofs.Known.{twenty}
+use Rattle.line.proofs.Packing.{held-items, held-within}
 use Rattle.line.proofs.Steps.{counted-yes, counted-no, counted-all}
 use borrow.Author.Needs.{needs}
 use Rattle.line.proofs.count_of.Statement.{statement}
@@ -18,8 +18,11 @@ Inv-loop priority l n count₀ i₀ count i = (i ≤ n)
 abbrev μ-loop : tie.MeasureT-loop
 μ-loop priority l n count₀ i₀ count i = n - i
 
-long : (c : tie.Start Inv-loop μ-loop) → c .args .t1 .len ≤ length (c .args .t1 .packets)
-long c = omega (arith, c .pre, twenty (c .args .t1) _ (c .good .0))
+long : (c : tie.After-held Inv-loop μ-loop) → c .held .result ≤ length (c .before .args .t1 .packets)
+long c = held-within (c .before .args .t1) _ (c .held .ensures .0)
+
+held-requires : tie.Need-held-requires Inv-loop μ-loop
+held-requires c κs = search needs
 
 loop-holds : tie.Need-loop-holds Inv-loop μ-loop
 loop-holds c = (omega arith, omega arith, omega arith)
@@ -43,18 +46,19 @@ loop-again : tie.Need-loop-again Inv-loop μ-loop
 loop-again c =
     let a = c .before .before .before .before in
     let s = a .before in
-    let ps = s .args .t1 .packets in
-    let n = s .args .t1 .len in
+    let ps = s .before .args .t1 .packets in
+    let n = s .held .result in
     let i = a .loop .i in
+    let k = s .before .args .priority in
     ⊎-elim
     (λ w. (
       omega arith,
-      rw (w .1) (counted-yes ps n i (long s) (s .args .priority) (a .loop .count) (omega arith) (w .0 .taken) ∙ a .loop .inv .1),
+      rw (w .1) (counted-yes ps n i (long s) k (a .loop .count) (omega arith) (w .0 .taken) ∙ a .loop .inv .1),
       omega (arith, a .loop .inv .2),
     ))
     (λ w. (
       omega arith,
-      rw (w .1) (counted-no ps n i (long s) (s .args .priority) (a .loop .count) (omega arith) (w .0 .left) ∙ a .loop .inv .1),
+      rw (w .1) (counted-no ps n i (long s) k (a .loop .count) (omega arith) (w .0 .left) ∙ a .loop .inv .1),
       omega (arith, a .loop .inv .2),
     ))
     (c .if1 .came)
@@ -63,8 +67,9 @@ returns : tie.Need-returns Inv-loop μ-loop
 returns c =
     let a = c .before in
     let s = a .before in
-    counted-all (s .args .t1 .packets) (s .args .t1 .len) (a .loop .i) (long s) (s .args .priority) (a .loop .count)
-    (omega arith) ∙ a .loop .inv .1
+    let l = s .before .args .t1 in
+    counted-all (l .packets) (s .held .result) (a .loop .i) (long s) (s .before .args .priority) (a .loop .count)
+    (omega arith) ∙ a .loop .inv .1 ∙ ap (countOf (s .before .args .priority)) (held-items l _ (s .held .ensures .0))
 
 pub count-of-spec : {M : Type 1} → statement M
 count-of-spec =
@@ -72,6 +77,7 @@ count-of-spec =
     (tie.spec
     Inv-loop
     μ-loop
+    held-requires
     loop-holds
     mul-p
     element-copy-out-p

@@ -1,13 +1,13 @@
 -- The loop's invariant: the answer is the best of what was found and of the packets that are left.
 use Prim.Native.Nat.{_-_, _≤_}
 use mathlib.Core.Path.{_≡_, _∙_, sym, ap, refl}
-use mathlib.Core.Logic.{⊎-elim}
 use lib.ListN.{length, take, drop, getD}
 use native.Mathlib.Omega.{arith}
 use Rattle.model.specs.Packets.{noPacket}
-use Rattle.line.specs.Line.{best}
-use Rattle.line.proofs.Known.{twenty}
-use Rattle.line.proofs.Steps.{better, no-better, best-all, picks}
+use Rattle.line.specs.Line.{best, goesNext}
+use Rattle.line.specs.Layout.{items}
+use Rattle.line.proofs.Packing.{held-items, held-within}
+use Rattle.line.proofs.Steps.{better, best-all, next-best, next-blank}
 use borrow.Author.Needs.{needs}
 use Rattle.line.proofs.pick.Statement.{statement}
 use Rattle.line.proofs.pick.Tie as tie
@@ -19,8 +19,17 @@ Inv-loop l n found₀ i₀ found i = (i ≤ n)
 abbrev μ-loop : tie.MeasureT-loop
 μ-loop l n found₀ i₀ found i = n - i
 
-long : (c : tie.Start Inv-loop μ-loop) → c .args .t1 .len ≤ length (c .args .t1 .packets)
-long c = omega (arith, c .pre .1, twenty (c .args .t1) _ (c .good .0))
+long : (c : tie.After-held Inv-loop μ-loop) → c .held .result ≤ length (c .before .args .t1 .packets)
+long c = held-within (c .before .args .t1) _ (c .held .ensures .0)
+
+held-requires : tie.Need-held-requires Inv-loop μ-loop
+held-requires c κs = search needs
+
+-- an empty line
+returns : tie.Need-returns Inv-loop μ-loop
+returns c =
+    let s = c .before in
+    next-blank (items (s .before .args .t1)) (sym (s .held .ensures .0) ∙ c .if1 .taken)
 
 element-copy-out-found : tie.Need-element-copy-out-found Inv-loop μ-loop
 element-copy-out-found c = search needs
@@ -34,6 +43,9 @@ mul-p c = search needs
 element-copy-out-p : tie.Need-element-copy-out-p Inv-loop μ-loop
 element-copy-out-p c = search needs
 
+sooner-requires : tie.Need-sooner-requires Inv-loop μ-loop
+sooner-requires c κs = search needs
+
 add-i : tie.Need-add-i Inv-loop μ-loop
 add-i c = search needs
 
@@ -42,32 +54,21 @@ loop-less c = search needs
 
 loop-again : tie.Need-loop-again Inv-loop μ-loop
 loop-again c =
-    let a = c .before .before .before .before .before in
-    let s = a .before .before in
-    let ps = s .args .t1 .packets in
-    let n = s .args .t1 .len in
-    ⊎-elim
-    (λ w. (
-      omega arith,
-      rw (w .1)
-          (a .loop .inv .1 ∙ better ps n (a .loop .i) (long s) (a .loop .found) (omega arith) (w .0 .taken)),
-    ))
-    (λ w. (
-      omega arith,
-      rw (w .1)
-          (a .loop .inv .1 ∙ no-better ps n (a .loop .i) (long s) (a .loop .found) (omega arith) (w .0 .left)),
-    ))
-    (c .if1 .came)
+    let a = c .before .before .before in
+    let s = a .before .before .before in
+    let n = s .held .result in
+    let ps = s .before .args .t1 .packets in
+    let turn = better ps n (a .loop .i) (long s) (a .loop .found) _ (omega arith) (c .sooner .ensures) in
+    (omega arith, a .loop .inv .1 ∙ turn)
 
-returns : tie.Need-returns Inv-loop μ-loop
-returns c =
+returns-2 : tie.Need-returns-2 Inv-loop μ-loop
+returns-2 c =
     let a = c .before in
-    let s = a .before .before in
-    let ps = s .args .t1 .packets in
-    let n = s .args .t1 .len in
-    let all : a .loop .found ≡ best (getD ps 0 noPacket) (drop 1 (take n ps)) =
-    sym (a .loop .inv .1 ∙ best-all ps n (a .loop .i) (long s) (a .loop .found) (omega arith)) in
-    picks ps n (a .loop .found) (long s) (s .pre .0) all
+    let s = a .before .before .before in
+    let l = s .before .args .t1 in
+    let n = s .held .result in
+    sym (a .loop .inv .1 ∙ best-all (l .packets) n (a .loop .i) (long s) (a .loop .found) (omega arith))
+    ∙ next-best (l .packets) n (long s) (omega arith) ∙ ap goesNext (held-items l n (s .held .ensures .0))
 
 pub pick-spec : {M : Type 1} → statement M
 pick-spec =
@@ -75,11 +76,14 @@ pick-spec =
     (tie.spec
     Inv-loop
     μ-loop
+    held-requires
+    returns
     element-copy-out-found
     loop-holds
     mul-p
     element-copy-out-p
+    sooner-requires
     add-i
     loop-less
     loop-again
-    returns)
+    returns-2)

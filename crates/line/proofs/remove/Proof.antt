@@ -1,15 +1,14 @@
 -- The loop's invariant: what is kept so far, and what is to come of the packets that are left.
 use Prim.Native.Nat.{_-_, _≤_, _<_}
-use mathlib.Core.Path.{_≡_, _∙_, sym, ap, refl}
-use mathlib.Core.List.{_++_}
+use mathlib.Core.Path.{_∙_, ap}
+use mathlib.Core.List.{List}
 use mathlib.Core.Logic.{⊎-elim}
-use lib.ListN.{length, take, drop, getD}
+use lib.ListN.{length}
 use native.Mathlib.Omega.{arith}
-use Rattle.model.specs.Packets.{noPacket}
+use Rattle.model.specs.declared.Packet.{Packet}
 use Rattle.line.specs.Line.{without}
-use Rattle.line.specs.Layout.{items, packed, Packed}
-use Rattle.line.proofs.Known.{twenty}
-use Rattle.line.proofs.Packing.{packed-Packed, items-packed}
+use Rattle.line.specs.Layout.{packed}
+use Rattle.line.proofs.Packing.{held-items, held-within}
 use Rattle.line.proofs.Removing.{Removing, removing-none, turn-gone, turn-found, turn-passed, removed}
 use borrow.Author.Needs.{needs}
 use Rattle.line.proofs.remove.Statement.{statement}
@@ -23,8 +22,11 @@ Inv-loop priority l n left₀ gone₀ i₀ left gone i = Removing (l .packets) n
 abbrev μ-loop : tie.MeasureT-loop
 μ-loop priority l n left₀ gone₀ i₀ left gone i = n - i
 
-long : (c : tie.Start Inv-loop μ-loop) → c .args .t1 .len ≤ length (c .args .t1 .packets)
-long c = omega (arith, c .pre, twenty (c .args .t1) _ (c .good .0))
+long : (c : tie.After-held Inv-loop μ-loop) → c .held .result ≤ length (c .before .args .t1 .packets)
+long c = held-within (c .before .args .t1) _ (c .held .ensures .0)
+
+held-requires : tie.Need-held-requires Inv-loop μ-loop
+held-requires c κs = search needs
 
 empty-requires : tie.Need-empty-requires Inv-loop μ-loop
 empty-requires c κs = search needs
@@ -39,14 +41,10 @@ element-copy-out-p : tie.Need-element-copy-out-p Inv-loop μ-loop
 element-copy-out-p c = search needs
 
 push-requires : tie.Need-push-requires Inv-loop μ-loop
-push-requires c κs =
-    let a = c .before .before .before in
-    (a .loop .inv .1, omega (arith, a .loop .inv .3, a .before .before .pre))
+push-requires c κs = search needs
 
 push-requires-2 : tie.Need-push-requires-2 Inv-loop μ-loop
-push-requires-2 c κs =
-    let a = c .before .before .before .before .before in
-    (a .loop .inv .1, omega (arith, a .loop .inv .3, a .before .before .pre))
+push-requires-2 c κs = search needs
 
 add-i : tie.Need-add-i Inv-loop μ-loop
 add-i c = search needs
@@ -58,17 +56,19 @@ loop-again : tie.Need-loop-again Inv-loop μ-loop
 loop-again c =
     let a = c .before .before .before in
     let s = a .before .before in
-    let ps = s .args .t1 .packets in
-    let n = s .args .t1 .len in
-    let k = s .args .priority in
+    let l = s .before .args .t1 in
+    let ps = l .packets in
+    let n = s .held .result in
+    let k = s .before .args .priority in
     let h : a .loop .i < n = omega arith in
+    let f = s .held .ensures .1 in
     ⊎-elim
-    (λ w. turn-gone ps n (a .loop .i) k (long s) h (a .loop .left) _ (a .loop .gone) _ (w .0 .taken) (w .2 ∙ w .1 .ensures)
+    (λ w. turn-gone ps n (a .loop .i) k (long s) f h (a .loop .left) _ (a .loop .gone) _ (w .0 .taken) (w .2 ∙ w .1 .ensures)
     (w .3) (a .loop .inv))
     (⊎-elim
-    (λ w. turn-found ps n (a .loop .i) k (long s) h (a .loop .left) _ (a .loop .gone) _ (w .0 .left) (w .2 .taken) (w .3)
+    (λ w. turn-found ps n (a .loop .i) k (long s) f h (a .loop .left) _ (a .loop .gone) _ (w .0 .left) (w .2 .taken) (w .3)
     (w .4) (a .loop .inv))
-    (λ w. turn-passed ps n (a .loop .i) k (long s) h (a .loop .left) _ (a .loop .gone) _ (w .0 .left) (w .2 .left)
+    (λ w. turn-passed ps n (a .loop .i) k (long s) f h (a .loop .left) _ (a .loop .gone) _ (w .0 .left) (w .2 .left)
     (w .4 ∙ w .3 .ensures) (w .5) (a .loop .inv)))
     (c .if1 .came)
 
@@ -76,8 +76,10 @@ returns : tie.Need-returns Inv-loop μ-loop
 returns c =
     let a = c .before in
     let s = a .before .before in
-    removed (s .args .t1 .packets) (s .args .t1 .len) (a .loop .i) (s .args .priority) (long s) (omega arith) (a .loop .left)
-    (a .loop .gone) (a .loop .inv)
+    let l = s .before .args .t1 in
+    let k = s .before .args .priority in
+    removed (l .packets) (s .held .result) (a .loop .i) k (long s) (omega arith) (a .loop .left) (a .loop .gone) (a .loop .inv)
+    ∙ ap (λ (ps : List Packet). packed (without k ps)) (held-items l _ (s .held .ensures .0))
 
 pub remove-spec : {M : Type 1} → statement M
 remove-spec =
@@ -85,6 +87,7 @@ remove-spec =
     (tie.spec
     Inv-loop
     μ-loop
+    held-requires
     empty-requires
     loop-holds
     mul-p

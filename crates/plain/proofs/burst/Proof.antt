@@ -1,5 +1,5 @@
 -- The loop keeps: the state and the answers are those of the first i records.
-use Prim.Native.Nat.{ℕ, _+_, _*_, _-_, _/_, _≤_, _<_}
+use Prim.Native.Nat.{ℕ, _+_, _*_, _-_, _/_, _≤_, _<_, min}
 use mathlib.Core.Path.{_≡_, refl, sym, ap, ap₂, _∙_}
 use mathlib.Core.List.{List}
 use native.Mathlib.Numerals.{add-one}
@@ -7,9 +7,11 @@ use native.Mathlib.Omega.{arith}
 use borrow.Author.Tests.{eq-eqb, ne-eqb}
 use denote.Ref.{now}
 use lib.ListN.{length, set, length-set}
+use Rattle.calllog.specs.Records.{recordBytes, recordAt}
 use Rattle.calllog.specs.Buffers.{written}
 use Rattle.calllog.specs.Bursts.{answerByte}
-use Rattle.calllog.proofs.Bursts.{has-room, behind}
+use Rattle.calllog.proofs.Asking.{whole-record}
+use Rattle.calllog.proofs.Bursts.{has-room, fits, behind}
 use Rattle.plain.specs.declared.Outcome.{Outcome}
 use Rattle.plain.specs.Bursts.{offeredBy, offeredAt, offeredTo, answersTo, burstState, burstAnswers}
 use Rattle.plain.proofs.Bursts.{record-told, answers-length}
@@ -41,19 +43,17 @@ loop-holds : tie.Need-loop-holds Inv-loop μ-loop
 unfolding offeredTo answersTo
 loop-holds c = (omega arith, refl, refl, refl)
 
-mul-read-record : tie.Need-mul-read-record Inv-loop μ-loop
-mul-read-record c = omega arith
+mul-record-at : tie.Need-mul-record-at Inv-loop μ-loop
+mul-record-at c = omega arith
 
-read-record-requires : tie.Need-read-record-requires Inv-loop μ-loop
-read-record-requires c κs = omega arith
+record-at-requires : tie.Need-record-at-requires Inv-loop μ-loop
+record-at-requires c κs = search needs
 
 offered-requires : tie.Need-offered-requires Inv-loop μ-loop
 offered-requires c κs = search needs
 
 answer-byte-requires : tie.Need-answer-byte-requires Inv-loop μ-loop
-answer-byte-requires c κs =
-    let told = record-told (c .before .before .before .before .loop .state) (c .before .before .read-record .result) in
-    rw (sym (ap (λ (x : Outcome). answerByte (x .answer)) (c .before .offered .ensures))) at told
+answer-byte-requires c κs = search needs
 
 lies-inside :
     (c : tie.After-answer-byte Inv-loop μ-loop)
@@ -88,10 +88,13 @@ loop-again c =
     let given = s .args .state in
     let answers = now (s .args .answers) in
     let done = c .before .before .offered in
+    let rec : c .before .before .before .record-at .result ≡ recordAt records (recordBytes * i) =
+    c .before .before .before .record-at .ensures ∙ whole-record records (recordBytes * i) (omega arith) in
     let e : done .result ≡ offeredAt (offeredTo given records i) records i =
-    done .ensures ∙ ap₂ offeredBy (l .inv .2) (c .before .before .before .read-record .ensures) in
+    done .ensures ∙ ap₂ offeredBy (l .inv .2) rec in
+    let told = record-told (offeredTo given records i) (recordAt records (recordBytes * i)) in
     let byte : c .answer-byte .result ≡ answerByte (offeredAt (offeredTo given records i) records i .answer) =
-    c .answer-byte .ensures ∙ ap (λ (x : Outcome). answerByte (x .answer)) e in (
+    c .answer-byte .ensures ∙ ap (λ (x : Outcome). min (answerByte (x .answer)) 255) e ∙ fits _ told in (
       omega arith,
       length-set (l .answers) i (c .answer-byte .result) ∙ l .inv .1,
       rw add-one (ap (λ (x : Outcome). x .state) e),
@@ -123,8 +126,8 @@ burst-spec =
     burst-refusal-requires
     returns
     loop-holds
-    mul-read-record
-    read-record-requires
+    mul-record-at
+    record-at-requires
     offered-requires
     answer-byte-requires
     slice-write-answers

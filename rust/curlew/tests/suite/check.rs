@@ -455,7 +455,8 @@ fn several_runs_each_have_a_verdict() {
     let done = check(&log, &out.replacen("REFUSED 9", "REFUSED 3", 1));
     done.failed(
         1,
-        "Outside of all runs, NOT KEPT: record 1 (poll at 0): the answer is REFUSED 3",
+        "Outside of all runs:\n  NOT KEPT   1 answer is wrong:\n             \
+         record 1 (poll at 0): the answer is REFUSED 3",
     );
     let done = check(
         &log,
@@ -473,12 +474,182 @@ fn no_run_and_no_records() {
     assert!(told.contains("a torn tail of 5 bytes"), "{told}");
 }
 
+/// Twenty runs are told in full, a thousand in a line each, and the others are counted.
 #[test]
 fn many_runs_are_not_told_one_by_one() {
-    let log = log_of(&"make 1 at 5\n".repeat(50));
+    let log = log_of(&("make 1 at 5\n".to_string() + &"make 1 at +2s\n".repeat(1_049)));
     let told = check(&log, &answers(&log)).good().text();
-    assert!(told.contains("30 more runs KEPT"), "{told}");
-    assert_eq!(told.matches("Run ").count(), 20, "{told}");
+    assert!(
+        told.contains("50 more runs, not told one by one."),
+        "{told}"
+    );
+    assert_eq!(told.matches("\n  Calls ").count(), 20, "{told}");
+    let line = "Run 21: profile 1, 0.000000 s, records 21 to 21, 0 sent, 0 µs on air, after a pause of 2 s. KEPT.\n";
+    assert!(told.contains(line), "{told}");
+    assert_eq!(told.matches("\nRun ").count() + 1, 1_000, "{told}");
+}
+
+/// Every wrong answer is told, those of several runs and those of none, up to a limit.
+#[test]
+fn every_fault_is_told() {
+    let mut text = "poll at 0\nmake 1 at 0\n".to_string() + &"poll at +1s\n".repeat(5);
+    text += &("make 2 at +1s\n".to_string() + &"poll at +1s\n".repeat(5));
+    let log = log_of(&text);
+    let out = answers(&log);
+    let mut lines: Vec<&str> = out.lines().collect();
+    for (line, wrong) in [
+        (1, "IDLE"),
+        (3, "SENT 1"),
+        (5, "CLOSED 5"),
+        (7, "REFUSED 2"),
+        (9, "TAKEN"),
+        (13, "SENT 9"),
+    ] {
+        lines[line - 1] = wrong;
+    }
+    let bent = lines.join("\n") + "\n";
+    let told = check(&log, &bent)
+        .failed(1, "Verdict: NOT KEPT in 2 of 2 runs.")
+        .text();
+    for words in [
+        "Run 1: profile 1, 0.000000 s to the last right answer, records 2 to 7\n  NOT KEPT   3 answers are wrong:",
+        "record 3 (poll at 1000000): SENT 1, but nothing waits\n",
+        "record 5 (poll at 3000000): the answer is CLOSED 5, the right one is IDLE\n",
+        "record 7 (poll at 5000000): the answer is REFUSED 2, the right one is IDLE\n",
+        "Run 2: profile 2, 0.000000 s to the last right answer, records 8 to 13\n  NOT KEPT   2 answers are wrong:",
+        "record 9 (poll at 7000000): TAKEN is no answer to this call\n",
+        "record 13 (poll at 11000000): the answer is SENT 9, the right one is IDLE\n",
+        "Outside of all runs:\n  NOT KEPT   1 answer is wrong:\n             record 1 (poll at 0): IDLE, but there is no gate",
+        "From the first on, what the gate held is not known",
+    ] {
+        assert!(told.contains(words), "no '{words}' in: {told}");
+    }
+    let folder = Folder::new();
+    let (log, out) = (folder.file("a.log", &log), folder.file("a.out", &bent));
+    let told = curlew(&["check", "--faults", "2", &log, &out])
+        .failed(1, ".. and 2 more")
+        .text();
+    assert_eq!(told.matches("record ").count(), 2, "{told}");
+    assert!(
+        told.contains("5 answers are wrong") || told.contains("3 answers are wrong"),
+        "{told}"
+    );
+}
+
+/// Three runs of a second each, with a packet of 4 ms each 4 ms: each run keeps what it promises.
+fn restarts(gap: &str, runs: u32, profile: u32) -> (Vec<u8>, String) {
+    let mut text = "make 3 at 0\n".replace('3', &profile.to_string());
+    for id in 1..=runs {
+        if id > 1 {
+            text += &format!("make {profile} at +{gap}\n");
+        }
+        text += &format!("offer {id} priority 0 ontime 4000 lifetime 1s at +0\npoll at +0\n");
+    }
+    let log = log_of(&text);
+    let out = answers(&log);
+    assert_eq!(out.matches("SENT").count(), runs as usize);
+    (log, out)
+}
+
+/// Makes 4 ms apart, each with one packet: each run is kept, and all together are not.
+#[test]
+fn air_is_added_up_across_makes() {
+    let (log, out) = restarts("4ms", 8, 3);
+    let told = check(&log, &out)
+        .failed(
+            1,
+            "Verdict: NOT KEPT across restarts, though each run by itself was.",
+        )
+        .text();
+    for words in [
+        "Run 2: profile 3, 0.000000 s, records 4 to 6\n  Restart    made 4,000 µs after the last call of the run before\n",
+        "Restarts   7 restarts; the shortest silence across one is 4,000 µs, from record 3 (run 1) to record 6 (run 2): \
+         less than the second that the label asks for.",
+        "Second     NOT KEPT: the 28 ms from record 3 (run 1) to record 24 (run 8), with 32 ms of the 30 ms allowed",
+        "Ceiling    NOT KEPT: the 28 ms from record 3 (run 1) to record 24 (run 8), with 32 ms of the 4,840 µs allowed",
+    ] {
+        assert!(told.contains(words), "no '{words}' in: {told}");
+    }
+    assert_eq!(told.matches("Second     KEPT").count(), 8, "{told}");
+    // Seven are 28 ms: the second is kept, the ceiling is not.
+    let (log, out) = restarts("4ms", 7, 3);
+    let told = check(&log, &out)
+        .failed(1, "Ceiling    NOT KEPT: the 24 ms")
+        .text();
+    assert!(
+        told.contains("Second     KEPT. Closest call: the 24 ms from record 3 (run 1)"),
+        "{told}"
+    );
+    // In profile 4 no ceiling is promised.
+    let (log, out) = restarts("4ms", 7, 4);
+    let told = check(&log, &out).good().text();
+    assert!(
+        told.contains("Ceiling    Nothing was sent in a profile that promises it."),
+        "{told}"
+    );
+    let (log, out) = restarts("4ms", 8, 4);
+    check(&log, &out).failed(1, "Second     NOT KEPT: the 28 ms");
+}
+
+/// A second of silence keeps what each run keeps; one µs less need not, and a little less is told.
+#[test]
+fn a_second_of_silence_is_enough() {
+    for profile in [3, 4] {
+        let (log, out) = restarts("1s", 40, profile);
+        let told = check(&log, &out).good().text();
+        assert!(
+            told.contains("39 restarts; the shortest silence across one is 1 s,"),
+            "{told}"
+        );
+        assert!(!told.contains("less than the second"), "{told}");
+    }
+    let (log, out) = restarts("999999us", 3, 3);
+    let told = check(&log, &out).good().text();
+    assert!(
+        told.contains("less than the second that the label asks for"),
+        "{told}"
+    );
+}
+
+/// Stamps wrap: the pause is read as the least that they allow. A count that goes back tells nothing.
+#[test]
+fn a_pause_that_the_stamps_do_not_tell() {
+    let text = |stamp: u32| {
+        let packet = "offer 1 priority 0 ontime 4000 lifetime 1s at +0\npoll at +0\n";
+        format!("make 3 at 4294966000\n{packet}make 3 at {stamp}\n{packet}")
+    };
+    let judged = |stamp: u32| {
+        let log = log_of(&text(stamp));
+        let out = answers(&log);
+        check(&log, &out)
+    };
+    // Over the wrap, 2,000 µs later.
+    judged(704).failed(
+        1,
+        "shortest silence across one is 2,000 µs, from record 3 (run 1) to record 6 (run 2)",
+    );
+    judged(4_294_966_000).failed(1, "shortest silence across one is 0 µs");
+    judged(2_147_482_351).good(); // half a turn less 1 µs later
+    for back in [2_147_482_352, 4_294_965_999, 2_200_000_000] {
+        let told = judged(back).good().text();
+        for words in [
+            "Restart    after the run before, at a time that is not known: see below",
+            "1 restart; no packet went both before and after one, on one clock. Before 1 of them the pause is not known",
+            "Verdict: KEPT. Ceiling and floor held throughout. Not over each restart: there a pause is not known.",
+        ] {
+            assert!(told.contains(words), "no '{words}' in: {told}");
+        }
+    }
+    // After a wrong answer the pause is not known either.
+    let log = log_of(&text(704));
+    let told = check(&log, &answers(&log).replacen("SENT 1", "IDLE", 1))
+        .failed(1, "NOT KEPT in 1 of 2 runs.");
+    assert!(
+        told.text()
+            .contains("Before 1 of them the pause is not known"),
+        "{}",
+        told.text()
+    );
 }
 
 /// One of the inputs may come as a stream.

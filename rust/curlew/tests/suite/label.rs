@@ -141,6 +141,48 @@ fn the_figures_of_each_profile() {
     }
 }
 
+/// The table of stretches, and the three of the figures, in each profile.
+#[test]
+fn the_most_of_each_profile() {
+    let (stretches, figures) = (table("in any"), table(""));
+    for (at, profile) in ["1", "2", "3", "4"].iter().enumerate() {
+        for line in &stretches[1..] {
+            let stretch = match line[0].as_str() {
+                "minute" => "60s".to_string(),
+                "hour" => "3600s".to_string(),
+                other => other.replace(' ', ""),
+            };
+            let options = [
+                "--profile",
+                profile,
+                "--poll",
+                "50ms",
+                "--stretch",
+                &stretch,
+            ];
+            let words: Vec<&str> = ["label"].iter().chain(&options).copied().collect();
+            let text = curlew(&words).good().text();
+            let told = text
+                .lines()
+                .filter(|line| line.starts_with("On air in any"))
+                .last()
+                .unwrap();
+            let told = told.split("at most").nth(1).unwrap().trim();
+            let (told, label) = (micros(told), micros(line[at + 1].trim_matches('*')));
+            // 6.999 ms by the ceiling are 7 ms on the label.
+            assert!(told <= label && label <= told + 1, "{options:?}: {told}");
+        }
+        for (what, name) in [
+            ("On air in any second, at most", "on air in any second"),
+            ("On air in any minute, at most", "in any minute, at most"),
+            ("On air in any hour, at most", "in any hour, at most"),
+        ] {
+            let told = said(&["--profile", profile, "--poll", "1s"], what);
+            assert_eq!(micros(&told), micros(&row(&figures, name)[at]), "{what}");
+        }
+    }
+}
+
 /// A length of time as it is written, in µs.
 fn micros(text: &str) -> u64 {
     let (number, unit) = text.split_once(' ').unwrap();
@@ -173,6 +215,10 @@ fn what_can_not_be_asked_is_refused() {
         let mut words = good.to_vec();
         words[at] = bad;
         curlew(&[&["label"], &words[..]].concat()).failed(2, why);
+    }
+    for bad in ["24999", "1000000000000001"] {
+        let words = [&["label", "--stretch", bad], &good[..]].concat();
+        curlew(&words).failed(2, "--stretch is 25 ms to");
     }
     curlew(&["label", "--poll", "50ms"]).failed(2, "--profile is missing");
     curlew(&["label", "--profile", "1"]).failed(2, "--poll is missing");

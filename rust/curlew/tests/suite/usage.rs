@@ -5,11 +5,11 @@ use crate::help::{curlew, example, Folder};
 #[test]
 fn help_and_version() {
     let help = curlew(&["--help"]).good().text();
-    for word in ["write", "show", "check", "plot", "Exit status"] {
+    for word in ["write", "show", "check", "plot", "label", "Exit status"] {
         assert!(help.contains(word), "{help}");
     }
     assert_eq!(curlew(&["help"]).good().text(), help);
-    for command in ["write", "show", "check", "plot"] {
+    for command in ["write", "show", "check", "plot", "report", "trace", "label"] {
         let help = curlew(&[command, "--help"]).good().text();
         assert!(help.starts_with(&format!("curlew {command}")), "{help}");
     }
@@ -95,6 +95,6 @@ fn files_that_are_not_there() {
     curlew(&["plot", &none, "-o", &svg]).failed(2, "none: there is no such file");
     curlew(&["show", &folder.path(".")]).failed(2, "it is a folder");
     let far = folder.path("no/such/a.svg");
-    curlew(&["plot", &log, "-o", &far]).failed(2, "there is no such file");
+    curlew(&["plot", &log, "-o", &far]).failed(2, "a.svg: there is no such folder, ");
     assert_eq!(folder.names(), Vec::<String>::new());
 }

@@ -7,7 +7,7 @@ use Rattle.plain.proofs.State.admit.Statement.{statement}
 use Rattle.plain.proofs.State.admit.Tie as tie
 
 remove-requires : tie.Need-remove-requires
-remove-requires c κs = known _ (c .pre .0) .short
+remove-requires c κs = search needs
 
 note-requires : tie.Need-note-requires
 note-requires c κs = (known _ (c .before .pre .0) .ledger-tight, c .before .pre .1)

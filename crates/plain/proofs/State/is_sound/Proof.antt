@@ -65,8 +65,8 @@ returns-7 c =
     let tight = line .is-sound2 .ensures .1 (not-false _ (c .before .before .before .if6 .left)) in
     no _ _ (unsound-counts (s .args .self) tight (sym (c .before .are-counts-sound .ensures) ∙ not-true _ (c .if7 .taken)))
 
-is-sound-requires-3 : tie.Need-is-sound-requires-3
-is-sound-requires-3 c κs =
+is-ledger-sound-requires : tie.Need-is-ledger-sound-requires
+is-ledger-sound-requires c κs =
     in-time _
     (sym (c .before .before .before .before .before .before .before .before .before .before .before .passes-end .ensures)
     ∙ c .before .before .before .before .before .before .before .before .before .before .if4 .left)
@@ -90,9 +90,9 @@ returns-8 c =
     let lined = sym (line .is-sound2 .ensures .0) ∙ not-false _ (counts .before .before .if6 .left) in
     let counted = sym (counts .are-counts-sound .ensures) ∙ not-false _ (c .before .before .if7 .left) in
     let same = by-ledger (s .args .self) (live .if1 .left) old-or-new steered timely lasting lined tight counted in (
-      c .is-sound3 .ensures ∙ sym same,
+      c .is-ledger-sound .ensures ∙ sym same,
       λ z. laid-out (s .args .self) tight
-          (ledger-tight (s .args .self) (forty-of (s .args .self) _ (s .good .0)) (sym (c .is-sound3 .ensures) ∙ z)),
+          (ledger-tight (s .args .self) (forty-of (s .args .self) _ (s .good .0)) (sym (c .is-ledger-sound .ensures) ∙ z)),
     )
 
 pub is-sound-spec : {M : Type 1} → statement M
@@ -111,5 +111,5 @@ is-sound-spec =
     returns-6
     are-counts-sound-requires
     returns-7
-    is-sound-requires-3
+    is-ledger-sound-requires
     returns-8)

@@ -52,11 +52,7 @@ refresh-requires c κs =
     (c .before .before .before .refusal .ensures .1 (c .before .before .if1 .left), sound-parts _ (e .is-sound) .2)
 
 room-refusal-requires : tie.Need-room-refusal-requires
-room-refusal-requires c κs =
-    let s = c .before .before .before .before .before in
-    let e = entered (s .args .self) (s .args .stamp)
-    (sym (c .before .before .before .before .refusal .ensures .0) ∙ c .before .before .before .if1 .left) in
-    given-of _ _ (c .refresh .ensures) (refreshed-given (s .args .self) (s .args .stamp) e)
+room-refusal-requires c κs = search needs
 
 refused-requires-3 : tie.Need-refused-requires-3
 refused-requires-3 c κs = search needs

@@ -1,10 +1,9 @@
 -- Refused; or nothing waits, or the packet picked waits or goes.
-use mathlib.Core.Path.{_≡_, sym, _∙_}
-use native.Mathlib.Omega.{arith}
+use mathlib.Core.Path.{sym, _∙_}
 use Rattle.model.specs.Calls.{poll}
 use Rattle.model.specs.Effects.{refreshed, effect}
 use Rattle.plain.specs.Layout.{viewOf}
-use Rattle.plain.proofs.Views.{given-of, sound-parts, known}
+use Rattle.plain.proofs.Views.{given-of, sound-parts}
 use Rattle.plain.proofs.Polling.{picks-at, left-at, idles, closes, sends, room-left}
 use Rattle.plain.proofs.Entry.{entered, refreshed-given, entry-refused, accepted, none-own}
 use borrow.Author.Needs.{needs}
@@ -40,12 +39,7 @@ returns-2 c =
     ∙ accepted (s .args .self) (poll (s .args .stamp)) e (none-own (viewOf (s .args .self)) (s .args .stamp))
 
 pick-requires : tie.Need-pick-requires
-pick-requires c κs =
-    let s = c .before .before .before .before .before in
-    let e = entered (s .args .self) (s .args .stamp)
-    (sym (c .before .before .before .before .refusal .ensures .0) ∙ c .before .before .before .if1 .left) in
-    let g = given-of _ _ (c .before .before .refresh .ensures) (refreshed-given (s .args .self) (s .args .stamp) e) in
-    (omega (arith, c .if2 .left), known _ g .short)
+pick-requires c κs = search needs
 
 left-for-requires : tie.Need-left-for-requires
 left-for-requires c κs =
@@ -65,7 +59,7 @@ returns-3 c =
     let h = refreshed-given (s .args .self) (s .args .stamp) e in
     let a = c .before .before .before .before .before .refresh in
     let p = c .before .before .pick .result in
-    let first = picks-at (a .result) w p (a .ensures) (c .before .before .pick .ensures) in
+    let first = picks-at (a .result) w p (a .ensures) (c .before .before .before .if2 .left) (c .before .before .pick .ensures) in
     let wait = left-at (a .result) w p _ (a .ensures) (c .before .left-for .ensures) in
     closes (a .result) w p _ (a .ensures) h first wait (c .if3 .taken)
     ∙ accepted (s .args .self) (poll (s .args .stamp)) e (none-own (viewOf (s .args .self)) (s .args .stamp))
@@ -80,7 +74,7 @@ admit-requires c κs =
     let h = refreshed-given (s .args .self) (s .args .stamp) e in
     let a = c .before .before .before .before .before .refresh in
     let p = c .before .before .pick .result in
-    let first = picks-at (a .result) w p (a .ensures) (c .before .before .pick .ensures) in
+    let first = picks-at (a .result) w p (a .ensures) (c .before .before .before .if2 .left) (c .before .before .pick .ensures) in
     let wait = left-at (a .result) w p _ (a .ensures) (c .before .left-for .ensures) in (
       given-of _ _ (a .ensures) h,
       room-left (s .args .self) (a .result) (s .args .stamp) p _ e (a .ensures) h first wait
@@ -98,7 +92,8 @@ returns-4 c =
     let h = refreshed-given (s .args .self) (s .args .stamp) e in
     let a = c .before .before .before .before .before .before .refresh in
     let p = c .before .before .before .pick .result in
-    let first = picks-at (a .result) w p (a .ensures) (c .before .before .before .pick .ensures) in
+    let first = picks-at (a .result) w p (a .ensures) (c .before .before .before .before .if2 .left)
+    (c .before .before .before .pick .ensures) in
     let wait = left-at (a .result) w p _ (a .ensures) (c .before .before .left-for .ensures) in
     sends (a .result) (c .admit .result) w p _ (a .ensures) h first wait (c .before .if3 .left) (c .admit .ensures)
     ∙ accepted (s .args .self) (poll (s .args .stamp)) e (none-own (viewOf (s .args .self)) (s .args .stamp))

@@ -1,10 +1,9 @@
 -- What is left of the line is what expiry keeps of it, and the rest is counted.
-use mathlib.Core.Path.{_≡_, sym, _∙_, ap}
+use mathlib.Core.Path.{ap}
 use native.Mathlib.Omega.{arith}
 use Rattle.line.specs.declared.Line.{Line}
 use Rattle.model.specs.declared.Counts.{Counts}
 use Rattle.model.specs.Effects.{moved}
-use Rattle.plain.specs.declared.State.{State}
 use Rattle.plain.specs.Layout.{viewOf}
 use Rattle.plain.proofs.Views.{known}
 use Rattle.plain.proofs.Doing.{same-line, same-counts, shorter, refreshes}
@@ -16,10 +15,7 @@ advance-requires : tie.Need-advance-requires
 advance-requires c κs = search needs
 
 expire-requires : tie.Need-expire-requires
-expire-requires c κs =
-    let s = c .before .before in
-    let l = same-line (s .args .self) (c .before .advance .result) (s .args .stamp) (s .pre .0) (c .before .advance .ensures) in
-    omega (arith, known _ (s .pre) .short, ap (λ (x : Line). x .len) l)
+expire-requires c κs = search needs
 
 sub-gone : tie.Need-sub-gone
 sub-gone c = shorter _ _ _ (c .before .before .expire .ensures)

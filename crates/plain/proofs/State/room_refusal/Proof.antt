@@ -2,13 +2,12 @@
 use mathlib.Core.Path.{_≡_, sym, _∙_}
 use borrow.Author.Tests.{le-leb, lt-leb}
 use Rattle.rules.specs.Refusals.{firstOf}
-use Rattle.plain.proofs.Views.{known}
 use borrow.Author.Needs.{needs}
 use Rattle.plain.proofs.State.room_refusal.Statement.{statement}
 use Rattle.plain.proofs.State.room_refusal.Tie as tie
 
 refuses-full-requires : tie.Need-refuses-full-requires
-refuses-full-requires c κs = known _ (c .pre) .short
+refuses-full-requires c κs = search needs
 
 returns : tie.Need-returns
 unfolding firstOf
