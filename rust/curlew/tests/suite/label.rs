@@ -165,7 +165,7 @@ fn the_most_of_each_profile() {
             let told = text
                 .lines()
                 .filter(|line| line.starts_with("On air in any"))
-                .last()
+                .next_back()
                 .unwrap();
             let told = told.split("at most").nth(1).unwrap().trim();
             let (told, label) = (micros(told), micros(line[at + 1].trim_matches('*')));
