@@ -5,11 +5,19 @@ use crate::help::{curlew, example, Folder};
 #[test]
 fn help_and_version() {
     let help = curlew(&["--help"]).good().text();
-    for word in ["write", "show", "check", "plot", "Exit status"] {
+    for word in [
+        "write",
+        "show",
+        "check",
+        "plot",
+        "report",
+        "trace",
+        "Exit status",
+    ] {
         assert!(help.contains(word), "{help}");
     }
     assert_eq!(curlew(&["help"]).good().text(), help);
-    for command in ["write", "show", "check", "plot"] {
+    for command in ["write", "show", "check", "plot", "report", "trace"] {
         let help = curlew(&[command, "--help"]).good().text();
         assert!(help.starts_with(&format!("curlew {command}")), "{help}");
     }
