@@ -70,7 +70,7 @@ impl Progress {
 impl Drop for Progress {
     fn drop(&mut self) {
         if self.told && self.overwrite {
-            eprintln!();
+            let _ = writeln!(io::stderr()); // as above
         }
     }
 }

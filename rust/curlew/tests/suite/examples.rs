@@ -3,7 +3,7 @@
 use std::io::Write;
 use std::process::{Command, Stdio};
 
-use crate::help::{answers, curlew, example, example_bytes, EXAMPLES};
+use crate::help::{answers, curlew, example, example_bytes, Folder, EXAMPLES};
 
 #[test]
 fn the_text_gives_the_log() {
@@ -76,20 +76,61 @@ fn the_proved_program_says_that_it_takes_no_arguments() {
 fn each_keeps_its_guarantees() {
     for name in EXAMPLES {
         let check = curlew(&["check", &example(name, "log"), &example(name, "out")]);
-        if name == "damaged-tail" {
-            // Its host sends 102 µs after a restart.
-            let text = check.failed(1, "Verdict: NOT KEPT across restarts").text();
-            assert_eq!(text.matches("NOT KEPT").count(), 2, "{text}");
-            let words =
-                "Ceiling    NOT KEPT: the 102 µs from record 13 (run 1) to record 21 (run 2), \
-                         with 4,500 µs of the 4,003 µs allowed.";
-            assert!(text.contains(words), "{text}");
+        if ["restarts", "damaged-tail"].contains(&name) {
+            check.failed(
+                1,
+                "Verdict: NOT KEPT across restarts, though each run by itself was.",
+            );
             continue;
         }
         let text = check.good().text();
         assert!(text.contains("Verdict: KEPT."), "{name}: {text}");
         assert!(!text.contains("NOT KEPT"), "{name}: {text}");
     }
+}
+
+/// What the log of restarts is there to show: one that is right, eight that aren't, and one of which nothing is known.
+#[test]
+fn after_a_restart_the_host_stays_silent() {
+    let check = curlew(&[
+        "check",
+        &example("restarts", "log"),
+        &example("restarts", "out"),
+    ]);
+    let text = check.failed(1, "11 runs").text();
+    for words in [
+        "Run 2: profile 3, 0.250000 s, records 5 to 8\n  Restart    made 250 ms after the last call of the run before\n",
+        "Restarts   10 restarts; the shortest silence across one is 4,000 µs, from record 11 (run 3) to record 14 (run 4): \
+         less than the second that the label asks for. Before 1 of them the pause is not known, and nothing is added up",
+        "Second     NOT KEPT: the 28 ms from record 11 (run 3) to record 32 (run 10), with 32 ms of the 30 ms allowed",
+        "Ceiling    NOT KEPT: the 28 ms from record 11 (run 3) to record 32 (run 10), with 32 ms of the 4,840 µs allowed",
+    ] {
+        assert!(text.contains(words), "no '{words}' in: {text}");
+    }
+    assert_eq!(text.matches("NOT KEPT").count(), 3, "{text}");
+    // Up to the second run all is kept, a second after the last packet too.
+    let log = example_bytes("restarts", "log")[..8 * 16].to_vec();
+    let folder = Folder::new();
+    let out = folder.file("a.out", answers(&log));
+    let log = folder.file("a.log", &log);
+    let text = curlew(&["check", &log, &out]).good().text();
+    let words =
+        "the shortest silence across one is 1 s, from record 3 (run 1) to record 8 (run 2).";
+    assert!(text.contains(words), "{text}");
+}
+
+/// The damaged tail has a host that sends 102 µs after a restart.
+#[test]
+fn the_ceiling_is_broken_across_a_restart() {
+    let check = curlew(&[
+        "check",
+        &example("damaged-tail", "log"),
+        &example("damaged-tail", "out"),
+    ]);
+    let words = "Ceiling    NOT KEPT: the 102 µs from record 13 (run 1) to record 21 (run 2), \
+                 with 4,500 µs of the 4,003 µs allowed.";
+    let text = check.failed(1, words).text();
+    assert_eq!(text.matches("NOT KEPT").count(), 2, "{text}");
 }
 
 #[test]

@@ -113,7 +113,7 @@ impl Drop for Folder {
 }
 
 /// The names of the example logs.
-pub const EXAMPLES: [&str; 10] = [
+pub const EXAMPLES: [&str; 11] = [
     "sample",
     "quiet-morning",
     "jam",
@@ -123,6 +123,7 @@ pub const EXAMPLES: [&str; 10] = [
     "new-radio",
     "abroad",
     "clock-wrap",
+    "restarts",
     "damaged-tail",
 ];
 
