@@ -369,9 +369,8 @@ fn the_sums_are_those_of_check() {
         let json = curlew(&["check", "--json", &log, &out]).text();
         let sum = |name: &str| -> u64 {
             let key = format!("\"{name}\":");
-            let runs = json
-                .lines()
-                .filter(|line| line.contains("\"first_record\""));
+            let is_run = |line: &&str| line.trim_start().starts_with("{\"run\":");
+            let runs = json.lines().filter(is_run);
             let numbers = runs.map(|line| {
                 let rest = &line[line.find(&key).unwrap() + key.len()..];
                 let end = rest.find(|c: char| !c.is_ascii_digit()).unwrap();
