@@ -220,14 +220,15 @@ impl Measured {
 
     /// The shortest wait of a profile makes its quiet figure.
     fn quiet(&self) -> Figure {
-        let most = match self.profile {
-            1 => 10,
-            2 => 20,
-            _ => 40,
+        let label = match self.profile {
+            1 => "up to 10",
+            2 => "up to 20",
+            3 | 4 => "up to 40",
+            _ => "not told",
         };
         Figure {
             name: "messages a second on an empty channel (NOT guaranteed)",
-            label: format!("up to {most}"),
+            label: label.to_string(),
             log: format!("most in any second: {}", grouped(self.most_in_a_second)),
             kept: None,
         }

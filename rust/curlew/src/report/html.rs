@@ -101,7 +101,7 @@ fn table(head: &[&str], rows: &[Vec<String>]) -> String {
     let mut text = "<div class=\"scroll\"><table>\n<thead><tr>".to_string();
     for (at, name) in head.iter().enumerate() {
         let name = name.trim_end_matches(['#', '+']);
-        text += &format!("<th{}>{name}</th>", class(at));
+        text += &format!("<th scope=\"col\"{}>{name}</th>", class(at));
     }
     text += "</tr></thead>\n<tbody>\n";
     for row in rows {
@@ -166,7 +166,7 @@ fn was_were(many: u64, one: &str) -> String {
 fn figures(measured: &[Measured]) -> String {
     let mut text = "<h2>The figures, beside the label's</h2>\n\
         <p>The label says what can be counted on, however loud the neighbours are (docs/LABEL.md). \
-        Beside each figure is the nearest that this log came to it.</p>\n"
+        Beside each figure is the nearest that a run of this log came to it.</p>\n"
         .to_string();
     if measured.is_empty() {
         text += "<p>There was no run.</p>\n";

@@ -11,6 +11,8 @@ mod lost;
 
 use std::cmp::Reverse;
 
+use reference::rules;
+
 use crate::check::{self, Faults};
 use crate::fault::Fault;
 use crate::follow::{follow, Hearer, Row, Run};
@@ -134,14 +136,27 @@ impl Gathered {
         self.told.sort();
     }
 
-    /// What was measured in a profile.
-    fn measured(&mut self, profile: u32) -> &mut Measured {
+    /// What was measured in a profile; one that there is not has no figures.
+    fn measured(&mut self, profile: u32) -> Option<&mut Measured> {
+        if !rules::profile_known(profile) {
+            return None;
+        }
         let at = self.measured.iter().position(|one| one.profile == profile);
         let at = at.unwrap_or_else(|| {
             self.measured.push(Measured::new(profile));
             self.measured.len() - 1
         });
-        &mut self.measured[at]
+        self.measured.get_mut(at)
+    }
+
+    /// A make: a run begins, if it was ready.
+    fn begin(&mut self, row: &Row) {
+        let Some(run) = row.run else {
+            return;
+        };
+        if let Some(measured) = self.measured(run.profile) {
+            measured.begin(run.number);
+        }
     }
 
     /// A row of a run, or of none.
@@ -159,8 +174,9 @@ impl Gathered {
             self.tally.see(row, &left, moment(row));
         }
         if let Some(run) = row.run {
-            let profile = run.profile;
-            self.measured(profile).see(row);
+            if let Some(measured) = self.measured(run.profile) {
+                measured.see(row);
+            }
             let survey = self.survey.get_or_insert_with(|| Survey::new(None, None));
             survey.see(run, row);
         }
@@ -196,9 +212,7 @@ impl Hearer for Gathered {
     fn row(&mut self, row: &Row) -> Result<(), Fault> {
         if row.record.kind == 0 {
             self.end_run(Some(row.number));
-            if let Some(run) = row.run {
-                self.measured(run.profile).begin(run.number);
-            }
+            self.begin(row);
         }
         self.see(row);
         Ok(())
@@ -206,7 +220,9 @@ impl Hearer for Gathered {
 
     fn run_over(&mut self, run: &Run) -> Result<(), Fault> {
         self.runs.add(run);
-        self.measured(run.profile).over(run);
+        if let Some(measured) = self.measured(run.profile) {
+            measured.over(run);
+        }
         self.run = Some(Line {
             number: run.number,
             profile: run.profile,

@@ -356,6 +356,61 @@ fn any_answers() {
     }
 }
 
+/// Over several runs the sums are those of check, which takes them from the books.
+#[test]
+fn the_sums_are_those_of_check() {
+    let mut rng = Rng::new(2_607);
+    let folder = Folder::new();
+    for _ in 0..10 {
+        let log: Vec<u8> = (0..4).flat_map(|_| busy_log(&mut rng, 150)).collect();
+        let page = page_of(&log);
+        let out = folder.file("a.out", answers(&log));
+        let log = folder.file("a.log", &log);
+        let json = curlew(&["check", "--json", &log, &out]).text();
+        let sum = |name: &str| -> u64 {
+            let key = format!("\"{name}\":");
+            let is_run = |line: &&str| line.trim_start().starts_with("{\"run\":");
+            let runs = json.lines().filter(is_run);
+            let numbers = runs.map(|line| {
+                let rest = &line[line.find(&key).unwrap() + key.len()..];
+                let end = rest.find(|c: char| !c.is_ascii_digit()).unwrap();
+                rest[..end].parse::<u64>().unwrap()
+            });
+            numbers.sum()
+        };
+        let rows = rows(&page);
+        let all = rows.iter().find(|row| row[0] == "all").unwrap();
+        let told = |at: usize| all[at].replace(',', "").parse::<u64>().unwrap();
+        for (at, name) in [
+            (2, "accepted"),
+            (3, "sent"),
+            (4, "expired"),
+            (5, "displaced"),
+        ] {
+            assert_eq!(told(at), sum(name), "{name}: {json}");
+        }
+        let waiting = format!("(displaced); {} packet", sum("waiting"));
+        assert!(page.contains(&waiting), "{waiting}");
+    }
+}
+
+/// A make of a profile that there is not, answered READY: nothing is known of it.
+#[test]
+fn a_profile_that_there_is_not() {
+    for profile in [0, 5, 9, 255] {
+        let text = format!(
+            "make {profile} at 0\noffer 1 priority 0 ontime 9 lifetime 9 at +9\npoll at +1\n"
+        );
+        let (page, done) = report(&log_of(&text), "READY\nTAKEN\nSENT 1\nEND\n", &[]);
+        assert_eq!((done.status, done.err.as_str()), (1, ""));
+        assert_well_formed(&page);
+        assert!(
+            page.contains("There was no run.") && page.contains("not known"),
+            "{page}"
+        );
+    }
+}
+
 /// Any bytes are a log: there is a page and a picture of them, and a life of any packet.
 #[test]
 fn any_bytes() {

@@ -5,7 +5,16 @@ use crate::help::{curlew, example, Folder};
 #[test]
 fn help_and_version() {
     let help = curlew(&["--help"]).good().text();
-    for word in ["write", "show", "check", "plot", "label", "Exit status"] {
+    for word in [
+        "write",
+        "show",
+        "check",
+        "plot",
+        "report",
+        "trace",
+        "label",
+        "Exit status",
+    ] {
         assert!(help.contains(word), "{help}");
     }
     assert_eq!(curlew(&["help"]).good().text(), help);
