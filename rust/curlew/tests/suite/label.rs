@@ -164,8 +164,7 @@ fn the_most_of_each_profile() {
             let text = curlew(&words).good().text();
             let told = text
                 .lines()
-                .filter(|line| line.starts_with("On air in any"))
-                .next_back()
+                .rfind(|line| line.starts_with("On air in any"))
                 .unwrap();
             let told = told.split("at most").nth(1).unwrap().trim();
             let (told, label) = (micros(told), micros(line[at + 1].trim_matches('*')));
