@@ -9,12 +9,18 @@ help:
 	@echo 'make bench   calls, samples and records beside plain Rust, a record beside its call, a burst beside single offers,'
 	@echo '             the plain engine beside the gate'
 	@echo 'make bench-replay   the program replay beside the same in plain Rust'
+	@echo 'make lib       one archive for C, headers, what pkg-config and CMake read: target/package'
+	@echo 'make install   the same below PREFIX (/usr/local), in DESTDIR if that is set'
+	@echo 'make dist      the release as one file, in target/dist: all of that, the examples and the Rust package'
+	@echo 'make measure   what a call takes, written to docs/INTEGRATING.md'
+	@echo 'make picture   the picture of the demo, docs/jam.svg'
 
 # The program that answers: the proved one, or without the Rattle kit the second one, which gives the same output.
 REPLAY := $(shell command -v rt >/dev/null && grep -qs '^replay:' crates.txt && echo target/bin/replay || echo target/rust/release/reference-replay)
 CARGO_BUILD := cargo build --quiet --release --offline --manifest-path rust/Cargo.toml --target-dir target/rust
 CURLEW := target/rust/release/curlew
 JAM := examples/logs/jam
+PLOT = $(CURLEW) plot --title 'A jam: the channel is loud throughout' $(JAM).log
 
 demo: demo-build
 	@mkdir -p target/demo
@@ -37,7 +43,7 @@ demo: demo-build
 	@echo 'Was all of it right? A book of the run, kept from calls and answers alone, and a second program say:'
 	@echo
 	@$(CURLEW) check $(JAM).log target/demo/jam.out
-	@$(CURLEW) plot --title 'A jam: the channel is loud throughout' $(JAM).log target/demo/jam.out -o target/demo/jam.svg
+	@$(PLOT) target/demo/jam.out -o target/demo/jam.svg
 	@echo
 	@echo 'See it:      target/demo/jam.svg, in any browser'
 	@echo 'Guarantees:  docs/LABEL.md, each number with the theorem that proves it'
@@ -54,6 +60,13 @@ ifeq ($(REPLAY),target/bin/replay)
 else
 	@echo 'The proved program needs the Rattle kit (rt). Without it, the second program answers in its place.'
 endif
+
+# The demo's picture as README has it. The answers are those of the committed file, which the program is held to.
+PICTURE := docs/jam.svg
+
+picture:
+	@$(CARGO_BUILD) --package curlew
+	@$(PLOT) $(JAM).out -o $(PICTURE)
 
 test:
 	@bash .ci/run
@@ -79,11 +92,30 @@ bench-replay: $(ARCHIVES) target/bin/replay
 	@$(CARGO_BUILD) --package bench
 	@rust/bench/replay
 
+PREFIX ?= /usr/local
+
+lib: $(patsubst %,target/staticlib/lib%.a,cstack floats host bursts plainhost)
+	@package/stage target/package
+	@echo 'target/package has include, lib and share; make install PREFIX=.. puts them where you want them'
+
+install: lib
+	@cd target/package && find . -type f -exec install -D -m 644 {} '$(abspath $(DESTDIR)/$(PREFIX))/{}' ';'
+
+dist: lib
+	@package/dist target/dist
+
+measure: lib
+	@package/measure
+
 # rt proves a crate before it writes its archive, and a program before it compiles it.
+NEEDS_KIT = @command -v rt >/dev/null || { echo 'make: $@ comes from the Rattle kit, and there is no rt on PATH: install the kit, and put its bin folder there' >&2; exit 1; }
+
 target/bin/replay: $(PROVED)
+	$(NEEDS_KIT)
 	rt check replay
 
 target/staticlib/lib%.a: $(PROVED)
+	$(NEEDS_KIT)
 	rt staticlib $*
 
-.PHONY: help demo demo-build test bench bench-replay
+.PHONY: help demo demo-build picture test bench bench-replay lib install dist measure
