@@ -158,6 +158,10 @@ static void crowd(uint32_t profile, unsigned expired) {
     presscurlew_state full = turn.state;
     WATCHED(turn, presscurlew_poll, full, stamp);
     WATCHED(turn, presscurlew_offer, full, 20, 3, 400, 1000, stamp);
+    if (expired % 8 != 2)
+        return;
+    sampled(full, 900, stamp);
+    burst(full, &habits[0], stamp);
 }
 
 static void records_and_rules(uint32_t profile) {

@@ -27,8 +27,8 @@
 //!
 //! This package is safe Rust over the archives that the Rattle crates are compiled to. What the proofs
 //! say, and what they assume, stands in the repository's README. It needs no other package, and with
-//! `default-features = false` nothing but `core`: the feature `alloc` has [`Gate::offer_burst`], and `std`, which is the
-//! default, the [`Recorder`].
+//! `default-features = false` nothing but `core`: the feature `alloc` has [`Gate::offer_burst`] beside
+//! [`Gate::offer_burst_into`], and `std`, which is the default, the [`Recorder`].
 //!
 //! The archives are looked for beside the package, in the release or the repository that it stands in, or in the
 //! folder that the environment names as `PRESSCURLEW_LIB_DIR`.
