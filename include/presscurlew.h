@@ -1,8 +1,8 @@
 /*
  * Presscurlew: a transmit gate for a shared 5.9 GHz radio channel, for radio stacks in C and C++.
  *
- * Link libpresscurlew.a; pkg-config and CMake know it as presscurlew. It gathers four archives, which can be linked each
- * for itself:
+ * Link libpresscurlew.a; pkg-config and CMake know it as presscurlew. It gathers four archives, which can be linked
+ * each for itself:
  *   the gate    make, sample, offer and poll on a state that the host keeps, and their log  libhost.a
  *   the burst   many offers on such a state in one call                                     libbursts.a
  *   the rules   the gate's rules on plain numbers, for a stack that has a gate of its own   libcstack.a
@@ -20,6 +20,10 @@
  * One precondition, of the calls that take pointers, and no other: behind each pointer stand as many bytes or words as
  * the count beside it says, and none that is written is one that is read. No call can test that, and the proofs say
  * nothing of a call that breaks it.
+ *
+ * What it takes, as found by trying many states (docs/INTEGRATING.md has the figures; they are no bounds): up to some
+ * 4,000 instructions a call, 17,000 for a burst of 20 offers; up to 7.2 kB of stack below the caller, who holds a state
+ * of 1,104 bytes and a turn of 1,144. The archive has 32 kB and no variables, and needs memcpy and memset of libc.
  *
  * Units
  *   time      microseconds (us)
@@ -73,9 +77,9 @@ extern "C" {
  * The edition
  * ===========
  *
- * The version, and the number of the layout: a check sum of the sizes and offsets of all structs and of the types of all
- * calls below, which is another one whenever any of these is. A host that is compiled with one header and linked with
- * the archive of another layout would read the state's bytes for what they are not. So it asks once, when it starts:
+ * The version, and the number of the layout: a check sum of the sizes and offsets of all structs and of the types of
+ * all calls below, which is another one whenever any of these is. A host that is compiled with one header and linked
+ * with the archive of another layout would read the state's bytes for what they are not. So it asks once, as it starts:
  *
  *   if (presscurlew_layout() != PRESSCURLEW_LAYOUT)
  *       stop("libpresscurlew.a is not of this presscurlew.h");
