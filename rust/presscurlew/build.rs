@@ -11,7 +11,8 @@ const PARTS: [&str; 4] = ["cstack", "host", "bursts", "floats"];
 /// The folder that the environment names, or else that of the release or the repository which this package stands in.
 fn folder() -> PathBuf {
     println!("cargo::rerun-if-env-changed=PRESSCURLEW_LIB_DIR");
-    if let Some(named) = env::var_os("PRESSCURLEW_LIB_DIR") {
+    let named = env::var_os("PRESSCURLEW_LIB_DIR").filter(|folder| !folder.is_empty());
+    if let Some(named) = named {
         return named.into();
     }
     let package = env::var_os("CARGO_MANIFEST_DIR").expect("cargo names the package's folder");
