@@ -93,13 +93,15 @@ bench-replay: $(ARCHIVES) target/bin/replay
 	@rust/bench/replay
 
 PREFIX ?= /usr/local
+PLACE = $(if $(DESTDIR),$(DESTDIR)/)$(PREFIX)
 
 lib: $(patsubst %,target/staticlib/lib%.a,cstack floats host bursts plainhost)
 	@package/stage target/package
 	@echo 'target/package has include, lib and share; make install PREFIX=.. puts them where you want them'
 
 install: lib
-	@cd target/package && find . -type f -exec install -D -m 644 {} '$(abspath $(DESTDIR)/$(PREFIX))/{}' ';'
+	@mkdir -p '$(PLACE)'
+	@tar -C target/package --mode=u+rwX,go+rX,go-w -cf - . | tar -C '$(PLACE)' --no-same-owner --no-overwrite-dir -xf -
 
 dist: lib
 	@package/dist target/dist
