@@ -9,6 +9,7 @@ help:
 	@echo 'make bench   calls, samples and records beside plain Rust, a record beside its call, a burst beside single offers,'
 	@echo '             the plain engine beside the gate'
 	@echo 'make bench-replay   the program replay beside the same in plain Rust'
+	@echo 'make boards  archives for ARM and RISC-V boards, tested under emulation (boards/run install has what it needs)'
 
 # The program that answers: the proved one, or without the Rattle kit the second one, which gives the same output.
 REPLAY := $(shell command -v rt >/dev/null && grep -qs '^replay:' crates.txt && echo target/bin/replay || echo target/rust/release/reference-replay)
@@ -79,6 +80,9 @@ bench-replay: $(ARCHIVES) target/bin/replay
 	@$(CARGO_BUILD) --package bench
 	@rust/bench/replay
 
+boards: $(ARCHIVES)
+	@boards/run
+
 # rt proves a crate before it writes its archive, and a program before it compiles it.
 target/bin/replay: $(PROVED)
 	rt check replay
@@ -86,4 +90,4 @@ target/bin/replay: $(PROVED)
 target/staticlib/lib%.a: $(PROVED)
 	rt staticlib $*
 
-.PHONY: help demo demo-build test bench bench-replay
+.PHONY: help demo demo-build test bench bench-replay boards
