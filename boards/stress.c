@@ -4,7 +4,7 @@
  *
  *   stress                  plays ROUNDS rounds and writes the sum after each, then what was seen
  *
- * It ends with an error if a refusal number was never seen, or a kind of answer, or a ledger that is nearly full.
+ * It ends with an error if a refusal number was never seen, or a kind of answer, or a ledger of 30 admissions.
  * Arguments are computed one by one, as C does not say in which order a call's own are.
  */
 #include <inttypes.h>
@@ -110,7 +110,7 @@ static void add_reply(const presscurlew_reply *r) {
 /* What runs: both engines, the radio's clock, and how the calls of this stretch are drawn. */
 static presscurlew_state gate;
 static presscurlew_plain_state plain;
-static uint32_t now, closed_for, longest, busy_most, slow;
+static uint32_t now, closed_for, most, longest, busy_most, slow, at_edges;
 
 static void took(const presscurlew_turn *t) {
     add_state(&t->state);
@@ -141,19 +141,70 @@ static void make(uint32_t profile, uint32_t when_full) {
     keep(&t, &u, stamp);
 }
 
-/* The stamp of the next call: where the gate said how long it is closed, often just then or 1 us before. */
+/*
+ * How far it is to where something happens, or 1 us before: a packet expires, an admission ages, or the clock ends; or
+ * nothing, but 1 us passes.
+ */
+static uint64_t to_next_edge(void) {
+    const presscurlew_queue *q = &gate.queues[below(4)];
+    uint64_t at = gate.clock.time;
+
+    switch (below(4)) {
+    case 0:
+        if (q->len > 0 && q->len <= 5)
+            at = q->slots[0].arrival + q->slots[below((uint32_t)q->len)].lifetime;
+        break;
+    case 1:
+        at = gate.ledger.len > 0 ? gate.ledger.ats[0] + 1000000 : at;
+        break;
+    case 2:
+        at = UINT64_C(1000000000000000) + 1;
+        break;
+    default:
+        at += 1;
+    }
+    return at - gate.clock.time - below(2);
+}
+
 static uint32_t next_stamp(void) {
     if (one_in(200))
         return now + UINT32_C(0x7FFFFFFE) + below(4);
     if (closed_for != 0 && below(3) != 0)
         return now + closed_for - below(2);
+    if (at_edges && one_in(6)) {
+        uint64_t far = to_next_edge();
+        if (far < 4000000)
+            return now + (uint32_t)far;
+    }
     return one_in(4) ? now : now + below(slow);
+}
+
+static uint32_t ledger_sum(void) {
+    uint32_t on_air = 0;
+
+    for (uint64_t i = 0; i < gate.ledger.len && i < 40; i++)
+        on_air += gate.ledger.ontimes[i];
+    return on_air;
+}
+
+/* An on-time: now and then at the edge of what is allowed, or just what the second has left, or 1 us more. */
+static uint32_t draw_ontime(void) {
+    uint32_t left = 30000 - ledger_sum() + below(2);
+
+    if (one_in(30))
+        return one_in(2) ? below(5000) : one_in(2) ? 0 : most + below(2);
+    return one_in(2) && left > 0 && left <= most ? left : 1 + below(longest);
+}
+
+static uint32_t draw_lifetime(void) {
+    if (one_in(50))
+        return one_in(2) ? 0 : 60000000 + below(2);
+    return 1 + below(3000000);
 }
 
 static void offer(void) {
     uint32_t id = (uint32_t)any(), priority = below(one_in(50) ? 6 : 4), stamp = next_stamp();
-    uint32_t ontime = one_in(50) ? below(5000) : 1 + below(longest);
-    uint32_t lifetime = one_in(50) ? (one_in(2) ? 0 : 60000000 + below(3)) : 1 + below(3000000);
+    uint32_t ontime = draw_ontime(), lifetime = draw_lifetime();
     presscurlew_turn t = presscurlew_offer(gate, id, priority, ontime, lifetime, stamp);
     presscurlew_plain_turn u = presscurlew_plain_offer(plain, id, priority, ontime, lifetime, stamp);
 
@@ -169,9 +220,14 @@ static void poll(void) {
 }
 
 static void sample_count(void) {
-    static const uint32_t sizes[] = {1, 64, 999, 1000, 12500, 12501, 0};
+    static const uint32_t sizes[] = {1, 64, 999, 1000, 12500, 12501, 0}, shares[] = {30, 40, 50, 60, 62, 65, 68, 100};
     uint32_t probes = one_in(2) ? 1000 : one_in(2) ? 1 + below(12500) : sizes[below(7)];
-    uint32_t busy = one_in(40) ? probes + below(2) : below(probes * busy_most / 100 + 1), stamp = next_stamp();
+    uint32_t busy = below(probes * busy_most / 100 + 1), stamp = next_stamp();
+
+    if (one_in(4)) {
+        busy = probes * shares[below(8)] / 100;
+        busy += below(2);
+    }
     presscurlew_turn t = presscurlew_sample_count(gate, busy, probes, stamp);
     presscurlew_plain_turn u = presscurlew_plain_sample_count(plain, busy, probes, stamp);
 
@@ -209,7 +265,7 @@ static uint8_t records[RECORDS * PRESSCURLEW_RECORD_BYTES + 1], answers[RECORDS 
 
 static void draw_record(uint8_t *record, uint32_t stamp) {
     uint32_t id = (uint32_t)any(), priority = below(one_in(20) ? 300 : 4);
-    uint32_t ontime = one_in(20) ? below(70000) : 1 + below(longest), lifetime = below(one_in(9) ? 70000000 : 999999);
+    uint32_t ontime = one_in(40) ? below(70000) : draw_ontime(), lifetime = draw_lifetime();
 
     presscurlew_put_offer(record, id, priority, ontime, lifetime, stamp);
     if (one_in(20))
@@ -251,7 +307,8 @@ static void burst(void) {
 static void write_records(void) {
     uint8_t log[40];
     uint32_t profile = below(one_in(4) ? 300 : 6), when_full = below(one_in(4) ? 3 : 2), stamp = (uint32_t)any();
-    uint32_t busy = (uint32_t)any() >> below(32), probes = one_in(8) ? 1000 : below(20000), id = (uint32_t)any();
+    uint32_t wide = below(32), busy = (uint32_t)any() >> wide, id = (uint32_t)any();
+    uint32_t probes = one_in(8) ? 1000 : below(20000);
     uint32_t priority = below(one_in(4) ? 300 : 4), ontime = below(one_in(4) ? 70000 : 4001), lifetime = (uint32_t)any();
     uint32_t bytes = below(sizeof log + 1), count, words_probes = draw_words(&count), far = below(40);
     size_t at = one_in(8) ? SIZE_MAX - far : far;
@@ -370,19 +427,41 @@ static void grow_old(uint64_t d) {
     plain.clock.time += d;
 }
 
-/* One bit of each state, or one field of one of them, is another. */
-static void spoil(void) {
-    uint8_t *first = (uint8_t *)&gate, *second = (uint8_t *)&plain;
+/* One bit of each state is another, or one number, or it is 1 more or less. */
+static void spoil_any(uint8_t *state, uint32_t bytes) {
+    uint32_t place = below(bytes / 4) * 4, bit = below(8), value;
 
-    if (one_in(2)) {
-        first[below(sizeof gate)] ^= (uint8_t)(1 << below(8));
-        second[below(sizeof plain)] ^= (uint8_t)(1 << below(8));
-    } else {
-        uint32_t value = one_in(2) ? (uint32_t)any() : below(45);
-        uint32_t place = below(sizeof gate / 4) * 4, other = below(sizeof plain / 4) * 4;
-        memcpy(first + place, &value, 4);
-        memcpy(second + other, &value, 4);
+    if (one_in(3)) {
+        state[place + below(4)] ^= (uint8_t)(1 << bit);
+        return;
     }
+    memcpy(&value, state + place, 4);
+    value = one_in(2) ? value + 1 - 2 * below(2) : one_in(2) ? (uint32_t)any() : below(45);
+    memcpy(state + place, &value, 4);
+}
+
+/* The ledger at the edge of what is sound: two admissions, the sum of the on-times, or the age of the oldest. */
+static void spoil_ledger(presscurlew_ledger *ledger, uint64_t time, uint32_t way, uint32_t place, uint32_t more) {
+    if (way == 0)
+        ledger->ats[place] = ledger->ats[place + 1] - 25000 + more;
+    if (way == 1)
+        ledger->ontimes[place] += 30000 - ledger_sum() + more;
+    if (way == 2)
+        ledger->ats[0] = time - 1000000 + more;
+}
+
+static void spoil(void) {
+    uint32_t way = below(3), place = below(40), more = below(2);
+    presscurlew_ledger ledger = gate.ledger;
+
+    if (one_in(2) || place + 1 >= ledger.len) {
+        spoil_any((uint8_t *)&gate, sizeof gate);
+        spoil_any((uint8_t *)&plain, sizeof plain);
+        return;
+    }
+    spoil_ledger(&ledger, gate.clock.time, way, place, more);
+    gate.ledger = ledger;
+    plain.ledger = ledger;
 }
 
 static void any_call(void) {
@@ -427,6 +506,8 @@ static void aside(void) {
     }
     if (way > 1)
         spoil();
+    if (way > 1)
+        burst();
     for (int i = 0; i < (way > 1 ? 1 : 8); i++)
         any_call();
     gate = gate_before;
@@ -435,20 +516,24 @@ static void aside(void) {
     closed_for = closed_before;
 }
 
-/* How the calls of the next stretch are drawn: short or long packets, a quiet or a loud channel, quick or slow. */
+/*
+ * How the calls of the next stretch are drawn: short or long packets, a quiet or a loud channel, quick or slow, with steps
+ * to where something happens or without.
+ */
 static void new_stretch(uint32_t profile) {
     static const uint32_t allowed[] = {1000, 1000, 500, 4000, 4000};
-    uint32_t most = profile <= 4 ? allowed[profile] : 1000;
 
+    most = profile <= 4 ? allowed[profile] : 1000;
     longest = one_in(2) ? most : one_in(2) ? 300 : most / 2;
     busy_most = one_in(2) ? 20 : one_in(2) ? 70 : 100;
     slow = one_in(4) ? 900000 : one_in(2) ? 30000 : 3000;
+    at_edges = one_in(2);
 }
 
 static void play(uint32_t profile, uint32_t when_full) {
     make(profile, when_full);
     for (uint32_t i = 0; i < STEPS; i++) {
-        if (i % 125 == 0)
+        if (i % 250 == 0)
             new_stretch(profile);
         any_call();
         if (one_in(8))
@@ -459,6 +544,33 @@ static void play(uint32_t profile, uint32_t when_full) {
             write_records();
         if (one_in(8))
             float_updates();
+    }
+}
+
+/* Profile 4's wait at each load in per mille, as the rule and as both engines have it. */
+static void play_loads(void) {
+    static const uint32_t ontimes[] = {4000, 650};
+
+    for (uint32_t i = 0; i < 2 * 1001; i++) {
+        uint32_t ontime = ontimes[i % 2], load = i / 2 * 1000;
+        presscurlew_wait_answer answer = presscurlew_wait(4, 0, 600000, ontime, load);
+        presscurlew_turn t = presscurlew_make(4, 0, 0);
+        presscurlew_plain_turn u = presscurlew_plain_make(4, 0, 0);
+
+        t = presscurlew_offer(t.state, 1, 0, ontime, 60000000, 0);
+        u = presscurlew_plain_offer(u.state, 1, 0, ontime, 60000000, 0);
+        t = presscurlew_poll(t.state, 0);
+        u = presscurlew_plain_poll(u.state, 0);
+        t = presscurlew_offer(t.state, 2, 0, ontime, 60000000, 0);
+        u = presscurlew_plain_offer(u.state, 2, 0, ontime, 60000000, 0);
+        t = presscurlew_sample_count(t.state, i / 2, 1000, 0);
+        u = presscurlew_plain_sample_count(u.state, i / 2, 1000, 0);
+        t = presscurlew_poll(t.state, 0);
+        u = presscurlew_plain_poll(u.state, 0);
+        add_refusal(answer.refusal);
+        add(answer.wait);
+        took(&t);
+        plain_took(&u);
     }
 }
 
@@ -474,7 +586,7 @@ static void play_none(void) {
 }
 
 static int all_seen(void) {
-    int seen = longest_ledger >= 36;
+    int seen = longest_ledger >= 30;
 
     for (int i = 0; i < 6; i++)
         seen = seen && kinds[i] > 0;
@@ -484,6 +596,7 @@ static int all_seen(void) {
 }
 
 int main(void) {
+    play_loads();
     for (uint32_t round = 1; round <= ROUNDS; round++) {
         new_stretch(1);
         play_none();
