@@ -332,9 +332,10 @@ static void write_records(void) {
 }
 
 static uint32_t edge(uint32_t high) {
-    static const uint32_t edges[] = {0,      1,      299999,  300000,  399999,   400000,   499999,   500000,
-                                     599999, 600000, 600001,  620000,  620001,   650000,   650001,   680000,
-                                     999999, 1000000, 1000001, 29999999, 30000000, 30000001, 4294967295u};
+    static const uint32_t edges[] = {0,        1,        500,      501,      1000,     1001,    4000,    4001,
+                                     299999,   300000,   399999,   400000,   499999,   500000,  599999,  600000,
+                                     600001,   620000,   620001,   650000,   650001,   680000,  999999,  1000000,
+                                     1000001,  29999999, 30000000, 30000001, 60000000, 60000001, 4294967295u};
 
     return one_in(4) ? edges[below(sizeof edges / sizeof edges[0])] : below(high);
 }
@@ -436,7 +437,7 @@ static void spoil_any(uint8_t *state, uint32_t bytes) {
         return;
     }
     memcpy(&value, state + place, 4);
-    value = one_in(2) ? value + 1 - 2 * below(2) : one_in(2) ? (uint32_t)any() : below(45);
+    value = one_in(3) ? value + 1 - 2 * below(2) : one_in(3) ? (uint32_t)any() : edge(45);
     memcpy(state + place, &value, 4);
 }
 
@@ -444,8 +445,12 @@ static void spoil_any(uint8_t *state, uint32_t bytes) {
 static void spoil_ledger(presscurlew_ledger *ledger, uint64_t time, uint32_t way, uint32_t place, uint32_t more) {
     if (way == 0)
         ledger->ats[place] = ledger->ats[place + 1] - 25000 + more;
-    if (way == 1)
-        ledger->ontimes[place] += 30000 - ledger_sum() + more;
+    for (uint32_t i = 0, lacking = 30000 + more - ledger_sum(); way == 1 && i < ledger->len - 1; i++) {
+        uint32_t room = most > ledger->ontimes[i] ? most - ledger->ontimes[i] : 0;
+        uint32_t longer = room < lacking ? room : lacking;
+        ledger->ontimes[i] += longer;
+        lacking -= longer;
+    }
     if (way == 2)
         ledger->ats[0] = time - 1000000 + more;
 }
