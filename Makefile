@@ -9,6 +9,7 @@ help:
 	@echo 'make bench   calls, samples and records beside plain Rust, a record beside its call, a burst beside single offers,'
 	@echo '             the plain engine beside the gate'
 	@echo 'make bench-replay   the program replay beside the same in plain Rust'
+	@echo 'make boards  archives for ARM and RISC-V boards, tested under emulation (boards/run install has what it needs)'
 	@echo 'make lib       one archive for C, headers, what pkg-config and CMake read: target/package'
 	@echo 'make install   the same below PREFIX (/usr/local), in DESTDIR if that is set'
 	@echo 'make dist      the release as one file, in target/dist: all of that, the examples and the Rust package'
@@ -109,6 +110,9 @@ dist: lib
 measure: lib
 	@package/measure
 
+boards: $(ARCHIVES)
+	@boards/run
+
 # rt proves a crate before it writes its archive, and a program before it compiles it.
 NEEDS_KIT = @command -v rt >/dev/null || { echo 'make: $@ comes from the Rattle kit, and there is no rt on PATH: install the kit, and put its bin folder there' >&2; exit 1; }
 
@@ -120,4 +124,4 @@ target/staticlib/lib%.a: $(PROVED)
 	$(NEEDS_KIT)
 	rt staticlib $*
 
-.PHONY: help demo demo-build picture test bench bench-replay lib install dist measure
+.PHONY: help demo demo-build picture test bench bench-replay boards lib install dist measure

@@ -7,7 +7,9 @@
  *   the burst   many offers on such a state in one call                                     libbursts.a
  *   the rules   the gate's rules on plain numbers, for a stack that has a gate of its own   libcstack.a
  *   in doubles  profile 3's update in floating point, for simulations                       libfloats.a
- * They are for x86-64 Linux (System V calling convention).
+ * They are for x86-64 Linux (System V calling convention). For ARM and RISC-V boards all of them, and the second
+ * engine, are one archive, target/boards/BOARD/libpresscurlew.a; docs/BOARDS.md says how it is made, and what is then
+ * assumed besides.
  *
  * presscurlew_plain.h has the gate once more, written to be read and not for speed: it is for tests and the assessor.
  *
@@ -52,6 +54,14 @@
 
 #include <stddef.h>
 #include <stdint.h>
+
+/*
+ * The proved code is compiled for a little-endian processor: it may look for a part of a number where such a one has it.
+ * So on a big-endian one an archive could answer wrongly without a sign, and there is none for it.
+ */
+#if defined(__BYTE_ORDER__) && __BYTE_ORDER__ != __ORDER_LITTLE_ENDIAN__
+#error "presscurlew is for little-endian processors: see docs/BOARDS.md"
+#endif
 
 #ifdef __cplusplus
 #if __cplusplus < 201103L

@@ -24,7 +24,7 @@
 #ifndef PRESSCURLEW_PLAIN_H
 #define PRESSCURLEW_PLAIN_H
 
-#include "presscurlew.h"
+#include "presscurlew.h" /* which refuses a big-endian processor, for this engine too */
 
 #ifdef __cplusplus
 extern "C" {
