@@ -10,12 +10,20 @@ help:
 	@echo 'make bench   calls, samples and records beside plain Rust, a record beside its call, a burst beside single offers,'
 	@echo '             the plain engine beside the gate'
 	@echo 'make bench-replay   the program replay beside the same in plain Rust'
+	@echo 'make boards  archives for ARM and RISC-V boards, tested under emulation (boards/run install has what it needs)'
+	@echo 'make lib       one archive for C, headers, what pkg-config and CMake read: target/package'
+	@echo 'make install   the same below PREFIX (/usr/local), in DESTDIR if that is set'
+	@echo 'make dist      the release as one file, in target/dist: all of that, the examples and the Rust package'
+	@echo 'make measure   what a call takes, written to docs/INTEGRATING.md'
+	@echo 'make picture   the picture of the demo, docs/jam.svg'
 
 # The program that answers: the proved one, or without the Rattle kit the second one, which gives the same output.
 REPLAY := $(shell command -v rt >/dev/null && grep -qs '^replay:' crates.txt && echo target/bin/replay || echo target/rust/release/reference-replay)
 CARGO_BUILD := cargo build --quiet --release --offline --manifest-path rust/Cargo.toml --target-dir target/rust
 CURLEW := target/rust/release/curlew
 JAM := examples/logs/jam
+JAM_TITLE := 'A jam: the channel is loud throughout'
+PLOT = $(CURLEW) plot --title $(JAM_TITLE) $(JAM).log
 
 demo: demo-build
 	@mkdir -p target/demo
@@ -38,8 +46,8 @@ demo: demo-build
 	@echo 'Was all of it right? A book of the run, kept from calls and answers alone, and a second program say:'
 	@echo
 	@$(CURLEW) check $(JAM).log target/demo/jam.out
-	@$(CURLEW) plot --title 'A jam: the channel is loud throughout' $(JAM).log target/demo/jam.out -o target/demo/jam.svg
-	@$(CURLEW) report --title 'A jam: the channel is loud throughout' $(JAM).log target/demo/jam.out -o target/demo/jam.html
+	@$(PLOT) target/demo/jam.out -o target/demo/jam.svg
+	@$(CURLEW) report --title $(JAM_TITLE) $(JAM).log target/demo/jam.out -o target/demo/jam.html
 	@echo
 	@echo 'See it:      target/demo/jam.svg, in any browser; all of it on one page: target/demo/jam.html'
 	@echo 'Guarantees:  docs/LABEL.md, each number with the theorem that proves it'
@@ -68,6 +76,13 @@ label:
 	    "file://$(CURDIR)/target/label/label.html" >target/label/print.log 2>&1 && echo 'Made target/label/label.pdf.' \
 	    || echo 'No PDF was made: target/label/print.log says why.'
 
+# The demo's picture as README has it. The answers are those of the committed file, which the program is held to.
+PICTURE := docs/jam.svg
+
+picture:
+	@$(CARGO_BUILD) --package curlew
+	@$(PLOT) $(JAM).out -o $(PICTURE)
+
 test:
 	@bash .ci/run
 
@@ -92,11 +107,35 @@ bench-replay: $(ARCHIVES) target/bin/replay
 	@$(CARGO_BUILD) --package bench
 	@rust/bench/replay
 
+PREFIX ?= /usr/local
+PLACE = $(if $(DESTDIR),$(DESTDIR)/)$(PREFIX)
+
+lib: $(patsubst %,target/staticlib/lib%.a,cstack floats host bursts plainhost)
+	@package/stage target/package
+	@echo 'target/package has include, lib and share; make install PREFIX=.. puts them where you want them'
+
+install: lib
+	@mkdir -p '$(PLACE)'
+	@tar -C target/package --mode=u+rwX,go+rX,go-w -cf - . | tar -C '$(PLACE)' --no-same-owner --no-overwrite-dir -xf -
+
+dist: lib
+	@package/dist target/dist
+
+measure: lib
+	@package/measure
+
+boards: $(ARCHIVES)
+	@boards/run
+
 # rt proves a crate before it writes its archive, and a program before it compiles it.
+NEEDS_KIT = @command -v rt >/dev/null || { echo 'make: $@ comes from the Rattle kit, and there is no rt on PATH: install the kit, and put its bin folder there' >&2; exit 1; }
+
 target/bin/replay: $(PROVED)
+	$(NEEDS_KIT)
 	rt check replay
 
 target/staticlib/lib%.a: $(PROVED)
+	$(NEEDS_KIT)
 	rt staticlib $*
 
-.PHONY: help demo demo-build label test bench bench-replay
+.PHONY: help demo demo-build label picture test bench bench-replay boards lib install dist measure

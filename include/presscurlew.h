@@ -1,12 +1,15 @@
 /*
  * Presscurlew: a transmit gate for a shared 5.9 GHz radio channel, for radio stacks in C and C++.
  *
- * Four archives, each for itself:
- *   the gate    make, sample, offer and poll on a state that the host keeps, and their log  link libhost.a
- *   the burst   many offers on such a state in one call                                     link libbursts.a
- *   the rules   the gate's rules on plain numbers, for a stack that has a gate of its own   link libcstack.a
- *   in doubles  profile 3's update in floating point, for simulations                       link libfloats.a
- * They stand in target/staticlib (x86-64, System V calling convention).
+ * Link libpresscurlew.a; pkg-config and CMake know it as presscurlew. It gathers four archives, which can be linked
+ * each for itself:
+ *   the gate    make, sample, offer and poll on a state that the host keeps, and their log  libhost.a
+ *   the burst   many offers on such a state in one call                                     libbursts.a
+ *   the rules   the gate's rules on plain numbers, for a stack that has a gate of its own   libcstack.a
+ *   in doubles  profile 3's update in floating point, for simulations                       libfloats.a
+ * They are for x86-64 Linux (System V calling convention). For ARM and RISC-V boards all of them, and the second
+ * engine, are one archive, target/boards/BOARD/libpresscurlew.a; docs/BOARDS.md says how it is made, and what is then
+ * assumed besides.
  *
  * presscurlew_plain.h has the gate once more, written to be read and not for speed: it is for tests and the assessor.
  *
@@ -15,6 +18,14 @@
  * of a sample and the records of a burst, which are only read) and what they give goes out by value (but for
  * the answers of a burst and a record of the log, which are written). They keep nothing, allocate nothing and
  * take no lock. Any number of threads, and interrupt handlers, may call them at once.
+ *
+ * One precondition, of the calls that take pointers, and no other: behind each pointer stand as many bytes or words as
+ * the count beside it says, and none that is written is one that is read. No call can test that, and the proofs say
+ * nothing of a call that breaks it.
+ *
+ * What it takes, as found by trying many states (docs/INTEGRATING.md has the figures; they are no bounds): up to some
+ * 4,000 instructions a call, 17,000 for a burst of 20 offers; up to 7.2 kB of stack below the caller, who holds a state
+ * of 1,104 bytes and a turn of 1,144. The archive has 32 kB and no variables, and needs memcpy and memset of libc.
  *
  * Units
  *   time      microseconds (us)
@@ -44,9 +55,52 @@
 #include <stddef.h>
 #include <stdint.h>
 
+/*
+ * The proved code is compiled for a little-endian processor: it may look for a part of a number where such a one has it.
+ * So on a big-endian one an archive could answer wrongly without a sign, and there is none for it.
+ */
+#if defined(__BYTE_ORDER__) && __BYTE_ORDER__ != __ORDER_LITTLE_ENDIAN__
+#error "presscurlew is for little-endian processors: see docs/BOARDS.md"
+#endif
+
+#ifdef __cplusplus
+#if __cplusplus < 201103L
+#error "presscurlew.h needs C++11 or later"
+#endif
+#elif !defined(__STDC_VERSION__) || __STDC_VERSION__ < 201112L
+#error "presscurlew.h needs C11 or later"
+#endif
+#ifndef UINT8_MAX
+#error "presscurlew.h is for bytes of 8 bits"
+#endif
+#if defined(_WIN32) || (defined(__x86_64__) && defined(__ILP32__))
+#error "presscurlew.h: no archive has this calling convention"
+#elif !(defined(__x86_64__) || defined(__aarch64__) || defined(__arm__) || (defined(__riscv) && __riscv_xlen == 64))
+#error "presscurlew.h: no archive is made for this processor"
+#endif
+
 #ifdef __cplusplus
 extern "C" {
 #endif
+
+/*
+ * The edition
+ * ===========
+ *
+ * The version, and the number of the layout: a check sum of the sizes and offsets of all structs and of the types of
+ * all calls below, which is another one whenever any of these is. A host that is compiled with one header and linked
+ * with the archive of another layout would read the state's bytes for what they are not. So it asks once, as it starts:
+ *
+ *   if (presscurlew_layout() != PRESSCURLEW_LAYOUT)
+ *       stop("libpresscurlew.a is not of this presscurlew.h");
+ */
+#define PRESSCURLEW_VERSION "0.9.0"
+#define PRESSCURLEW_VERSION_NUMBER 9000u /* a million for each major and a thousand for each minor number */
+#define PRESSCURLEW_LAYOUT 1253097843u
+
+/* The PRESSCURLEW_VERSION_NUMBER and the PRESSCURLEW_LAYOUT of the archive. */
+uint32_t presscurlew_version(void);
+uint32_t presscurlew_layout(void);
 
 /*
  * The refusal numbers of the gate. A call tests 9, 2 and 3, then 4, or 5 to 8 and 11, as they apply; the first
@@ -69,6 +123,27 @@ enum presscurlew_refusal {
     PRESSCURLEW_NO_ROOM = 12,     /* burst: fewer answer bytes than records; log: no 16 bytes at that place */
     PRESSCURLEW_TORN_LOG = 13     /* burst: the bytes of the records are not a multiple of 16 */
 };
+
+/* The name of such a number, as "QUEUE-FULL"; "ACCEPTED" for 0, and "unknown" for what is none of them. */
+static inline const char *presscurlew_refusal_name(uint64_t number) {
+    switch (number) {
+    case 0: return "ACCEPTED";
+    case PRESSCURLEW_BAD_PROFILE: return "BAD-PROFILE";
+    case PRESSCURLEW_CLOCK_BACK: return "CLOCK-BACK";
+    case PRESSCURLEW_CLOCK_END: return "CLOCK-END";
+    case PRESSCURLEW_BAD_SAMPLE: return "BAD-SAMPLE";
+    case PRESSCURLEW_BAD_PRIORITY: return "BAD-PRIORITY";
+    case PRESSCURLEW_BAD_ON_TIME: return "BAD-ON-TIME";
+    case PRESSCURLEW_BAD_LIFETIME: return "BAD-LIFETIME";
+    case PRESSCURLEW_QUEUE_FULL: return "QUEUE-FULL";
+    case PRESSCURLEW_NO_STATE: return "NO-STATE";
+    case PRESSCURLEW_BAD_KIND: return "BAD-KIND";
+    case PRESSCURLEW_SPENT: return "SPENT";
+    case PRESSCURLEW_NO_ROOM: return "NO-ROOM";
+    case PRESSCURLEW_TORN_LOG: return "TORN-LOG";
+    default: return "unknown";
+    }
+}
 
 /*
  * The gate
@@ -476,6 +551,19 @@ enum presscurlew_rule_refusal {
     PRESSCURLEW_BAD_FLOAT = 14    /* presscurlew_float_update alone: a number is out of its limits, or not a number */
 };
 
+/* The name of a refusal number of the rules; "unknown" for what is none of them. */
+static inline const char *presscurlew_rule_refusal_name(uint32_t number) {
+    switch (number) {
+    case PRESSCURLEW_BAD_LOAD: return "BAD-LOAD";
+    case PRESSCURLEW_OUT_OF_RANGE: return "OUT-OF-RANGE";
+    case PRESSCURLEW_BAD_FLOAT: return "BAD-FLOAT";
+    case PRESSCURLEW_ACCEPTED:
+    case PRESSCURLEW_BAD_PROFILE:
+    case PRESSCURLEW_BAD_ON_TIME: return presscurlew_refusal_name(number);
+    default: return "unknown";
+    }
+}
+
 /* What presscurlew_wanted_level and presscurlew_level_step answer. */
 typedef struct presscurlew_level_answer {
     uint32_t refusal;
@@ -588,6 +676,86 @@ typedef struct presscurlew_float_answer {
  * Not-a-number never does; negative zero compares as 0.0, and goes through as it is.
  */
 presscurlew_float_answer presscurlew_float_update(double duty, double smoothed, double kept, double new_load);
+
+/*
+ * The layout
+ * ==========
+ *
+ * What the compiler makes of the structs above is what the archives have.
+ */
+#ifdef __cplusplus
+#define PRESSCURLEW_HELD(fact) static_assert(fact, "presscurlew.h: this target lays structs out as no archive does")
+#else
+#define PRESSCURLEW_HELD(fact) _Static_assert(fact, "presscurlew.h: this target lays structs out as no archive does")
+#endif
+#define PRESSCURLEW_SIZE(name, bytes) PRESSCURLEW_HELD(sizeof(presscurlew_##name) == (bytes))
+#define PRESSCURLEW_FIELD(name, field, at) PRESSCURLEW_HELD(offsetof(presscurlew_##name, field) == (at))
+PRESSCURLEW_SIZE(packet, 24);
+PRESSCURLEW_FIELD(packet, id, 0);
+PRESSCURLEW_FIELD(packet, priority, 4);
+PRESSCURLEW_FIELD(packet, ontime, 8);
+PRESSCURLEW_FIELD(packet, lifetime, 12);
+PRESSCURLEW_FIELD(packet, arrival, 16);
+PRESSCURLEW_SIZE(queue, 128);
+PRESSCURLEW_FIELD(queue, len, 0);
+PRESSCURLEW_FIELD(queue, slots, 8);
+PRESSCURLEW_SIZE(ledger, 488);
+PRESSCURLEW_FIELD(ledger, len, 0);
+PRESSCURLEW_FIELD(ledger, ats, 8);
+PRESSCURLEW_FIELD(ledger, ontimes, 328);
+PRESSCURLEW_SIZE(clock, 16);
+PRESSCURLEW_FIELD(clock, time, 0);
+PRESSCURLEW_FIELD(clock, stamp, 8);
+PRESSCURLEW_SIZE(last, 16);
+PRESSCURLEW_FIELD(last, at, 0);
+PRESSCURLEW_FIELD(last, ontime, 8);
+PRESSCURLEW_FIELD(last, admitted, 12);
+PRESSCURLEW_SIZE(counts, 32);
+PRESSCURLEW_FIELD(counts, accepted, 0);
+PRESSCURLEW_FIELD(counts, sent, 8);
+PRESSCURLEW_FIELD(counts, expired, 16);
+PRESSCURLEW_FIELD(counts, displaced, 24);
+PRESSCURLEW_SIZE(tuning, 24);
+PRESSCURLEW_FIELD(tuning, level, 0);
+PRESSCURLEW_FIELD(tuning, duty, 4);
+PRESSCURLEW_FIELD(tuning, smoothed, 8);
+PRESSCURLEW_FIELD(tuning, kept, 12);
+PRESSCURLEW_FIELD(tuning, pairing, 16);
+PRESSCURLEW_FIELD(tuning, latest, 20);
+PRESSCURLEW_SIZE(state, 1104);
+PRESSCURLEW_FIELD(state, queues, 0);
+PRESSCURLEW_FIELD(state, ledger, 512);
+PRESSCURLEW_FIELD(state, clock, 1000);
+PRESSCURLEW_FIELD(state, last, 1016);
+PRESSCURLEW_FIELD(state, counts, 1032);
+PRESSCURLEW_FIELD(state, tuning, 1064);
+PRESSCURLEW_FIELD(state, profile, 1088);
+PRESSCURLEW_FIELD(state, oldway, 1092);
+PRESSCURLEW_FIELD(state, live, 1096);
+PRESSCURLEW_SIZE(reply, 40);
+PRESSCURLEW_FIELD(reply, packet, 0);
+PRESSCURLEW_FIELD(reply, number, 24);
+PRESSCURLEW_FIELD(reply, kind, 32);
+PRESSCURLEW_SIZE(turn, 1144);
+PRESSCURLEW_FIELD(turn, state, 0);
+PRESSCURLEW_FIELD(turn, reply, 1104);
+PRESSCURLEW_SIZE(burst_turn, 1112);
+PRESSCURLEW_FIELD(burst_turn, state, 0);
+PRESSCURLEW_FIELD(burst_turn, number, 1104);
+PRESSCURLEW_SIZE(level_answer, 8);
+PRESSCURLEW_FIELD(level_answer, refusal, 0);
+PRESSCURLEW_FIELD(level_answer, level, 4);
+PRESSCURLEW_SIZE(duty_answer, 12);
+PRESSCURLEW_FIELD(duty_answer, refusal, 0);
+PRESSCURLEW_FIELD(duty_answer, smoothed, 4);
+PRESSCURLEW_FIELD(duty_answer, duty, 8);
+PRESSCURLEW_SIZE(wait_answer, 8);
+PRESSCURLEW_FIELD(wait_answer, refusal, 0);
+PRESSCURLEW_FIELD(wait_answer, wait, 4);
+PRESSCURLEW_SIZE(float_answer, 24);
+PRESSCURLEW_FIELD(float_answer, refusal, 0);
+PRESSCURLEW_FIELD(float_answer, smoothed, 8);
+PRESSCURLEW_FIELD(float_answer, duty, 16);
 
 #ifdef __cplusplus
 }

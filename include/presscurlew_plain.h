@@ -2,7 +2,8 @@
  * Presscurlew's plain engine: the gate once more, with one list of packets in order of arrival in place of four queues.
  *
  * It is for tests and for the safety assessor, who reads one list and not four queues. A host keeps to the gate of
- * presscurlew.h, which takes less time. Link libplainhost.a, of target/staticlib; it needs none of the other archives.
+ * presscurlew.h, which takes less time. Link libpresscurlew_plain.a (presscurlew-plain for pkg-config,
+ * presscurlew::plain for CMake), or libplainhost.a, which is the same; it needs none of the other archives.
  *
  * That both are one gate is proved: from makes with the same numbers, or from any sound list and the queues that are
  * its parts, the same calls and bursts get the same answers at every step, whatever they are: refusals, displacement,
@@ -23,11 +24,15 @@
 #ifndef PRESSCURLEW_PLAIN_H
 #define PRESSCURLEW_PLAIN_H
 
-#include "presscurlew.h"
+#include "presscurlew.h" /* which refuses a big-endian processor, for this engine too */
 
 #ifdef __cplusplus
 extern "C" {
 #endif
+
+/* The number of the layout below, as PRESSCURLEW_LAYOUT is that of presscurlew.h, and that of the archive. */
+#define PRESSCURLEW_PLAIN_LAYOUT 1592883932u
+uint32_t presscurlew_plain_layout(void);
 
 /*
  * The packets that wait, of all priorities. The list is sound if it holds at most 20, at most 5 of them of one
@@ -91,6 +96,27 @@ presscurlew_plain_turn presscurlew_plain_poll(presscurlew_plain_state state, uin
 /* Many offers in one call, as by presscurlew_burst. */
 presscurlew_plain_burst_turn presscurlew_plain_burst(presscurlew_plain_state state, const uint8_t *records,
                                                      size_t bytes, uint8_t *answers, size_t room);
+
+/* The layout, as in presscurlew.h. */
+PRESSCURLEW_SIZE(plain_line, 488);
+PRESSCURLEW_FIELD(plain_line, len, 0);
+PRESSCURLEW_FIELD(plain_line, packets, 8);
+PRESSCURLEW_SIZE(plain_state, 1080);
+PRESSCURLEW_FIELD(plain_state, line, 0);
+PRESSCURLEW_FIELD(plain_state, ledger, 488);
+PRESSCURLEW_FIELD(plain_state, clock, 976);
+PRESSCURLEW_FIELD(plain_state, last, 992);
+PRESSCURLEW_FIELD(plain_state, counts, 1008);
+PRESSCURLEW_FIELD(plain_state, tuning, 1040);
+PRESSCURLEW_FIELD(plain_state, profile, 1064);
+PRESSCURLEW_FIELD(plain_state, oldway, 1068);
+PRESSCURLEW_FIELD(plain_state, live, 1072);
+PRESSCURLEW_SIZE(plain_turn, 1120);
+PRESSCURLEW_FIELD(plain_turn, state, 0);
+PRESSCURLEW_FIELD(plain_turn, reply, 1080);
+PRESSCURLEW_SIZE(plain_burst_turn, 1088);
+PRESSCURLEW_FIELD(plain_burst_turn, state, 0);
+PRESSCURLEW_FIELD(plain_burst_turn, number, 1080);
 
 #ifdef __cplusplus
 }

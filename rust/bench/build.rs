@@ -1,18 +1,21 @@
-//! Links the archives that run rows of calls inside one loop.
+//! Links the archives that run rows of calls inside one loop; they stand in the folder of the gate's.
 
 use std::env;
 use std::path::PathBuf;
+use std::process::exit;
 
 fn main() {
-    let package = env::var_os("CARGO_MANIFEST_DIR").expect("cargo names the package's folder");
-    let folder = PathBuf::from(package).join("../../target/staticlib");
-    println!("cargo:rustc-link-search=native={}", folder.display());
+    let folder = env::var_os("DEP_PRESSCURLEW_LIB_DIR").expect("the package presscurlew names it");
+    let folder = PathBuf::from(folder);
+    println!("cargo::rustc-link-search=native={}", folder.display());
     for name in ["loops", "samples"] {
         let archive = folder.join(format!("lib{name}.a"));
-        println!("cargo:rerun-if-changed={}", archive.display());
-        println!("cargo:rustc-link-lib=static={name}");
         if !archive.exists() {
-            println!("cargo:warning=lib{name}.a is missing: run `rt staticlib {name}` first");
+            eprintln!("bench: there is no lib{name}.a in {}", folder.display());
+            eprintln!("  run `rt staticlib {name}`, which needs the Rattle kit");
+            exit(1);
         }
+        println!("cargo::rerun-if-changed={}", archive.display());
+        println!("cargo::rustc-link-lib=static={name}");
     }
 }

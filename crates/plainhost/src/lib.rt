@@ -14,6 +14,8 @@ use plain::BurstTurn;
 use plain::Outcome;
 use plain::State;
 
+pub mod edition;
+
 // What a call hands back: the next state, and the answer as plain numbers.
 #[repr(C)]
 pub struct Turn {

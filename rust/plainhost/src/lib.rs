@@ -154,6 +154,7 @@ impl State {
 }
 
 /// What a call hands back.
+#[must_use]
 #[repr(C)]
 #[derive(Clone, Copy, Debug, Default, PartialEq, Eq, Hash)]
 pub struct Turn {
@@ -164,6 +165,7 @@ pub struct Turn {
 }
 
 /// What a burst hands back.
+#[must_use]
 #[repr(C)]
 #[derive(Clone, Copy, Debug, Default, PartialEq, Eq, Hash)]
 pub struct BurstTurn {
@@ -173,9 +175,15 @@ pub struct BurstTurn {
     pub number: u32,
 }
 
+/// The number of the layout that this package declares; an archive of another one must not be called.
+pub const LAYOUT: u32 = 1_592_883_932;
+
 // Safe to call, but for those that take pointers: any numbers and any state at all are answered.
 #[allow(unsafe_code)]
 unsafe extern "C" {
+    /// The archive's [`LAYOUT`].
+    pub safe fn presscurlew_plain_layout() -> u32;
+
     /// A fresh state; `when_full` is [`sys::DROP_OLDEST`] or [`sys::REFUSE_NEW`].
     pub safe fn presscurlew_plain_make(profile: u32, when_full: u32, stamp: u32) -> Turn;
 

@@ -13,8 +13,8 @@
 //! # Ok::<(), BadFloat>(())
 //! ```
 
-use std::error::Error;
-use std::fmt;
+use core::error::Error;
+use core::fmt;
 
 use crate::sys;
 

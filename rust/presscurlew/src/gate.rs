@@ -27,9 +27,12 @@
 //! # Ok::<(), Refusal>(())
 //! ```
 
-use std::error::Error;
-use std::fmt;
+#[cfg(feature = "alloc")]
+use alloc::{vec, vec::Vec};
+use core::error::Error;
+use core::fmt;
 
+use crate::profile::Profile;
 use crate::sys;
 pub use crate::sys::{Counts, Packet};
 
@@ -91,7 +94,22 @@ pub struct Offer {
     pub lifetime: u32,
 }
 
-/// What a poll answers.
+/// What a poll answers. One that is dropped may be a packet that is never sent, so the compiler warns of it:
+///
+/// ```compile_fail
+/// # #![deny(unused_must_use)]
+/// # let mut gate = presscurlew::Gate::new(1, presscurlew::WhenFull::DropOldest, 0)?;
+/// gate.poll(30)?;
+/// # Ok::<(), presscurlew::Refusal>(())
+/// ```
+///
+/// ```
+/// # #![deny(unused_must_use)]
+/// # let mut gate = presscurlew::Gate::new(1, presscurlew::WhenFull::DropOldest, 0)?;
+/// let answer = gate.poll(30)?;
+/// # Ok::<(), presscurlew::Refusal>(())
+/// ```
+#[must_use = "a packet that is SENT has left its queue, and goes on air now or never"]
 #[derive(Clone, Copy, Debug, PartialEq, Eq, Hash)]
 pub enum Answer {
     /// This packet has left its queue, and goes on air now.
@@ -142,6 +160,7 @@ impl Offer {
 }
 
 /// Why a call was refused. A refused call changes nothing, clock and counts included.
+#[non_exhaustive]
 #[derive(Clone, Copy, Debug, PartialEq, Eq, Hash)]
 pub enum Refusal {
     /// The profile is not 1 to 4. ([`sys::presscurlew_make`] answers this also if `when_full` is above 1.)
@@ -282,10 +301,33 @@ impl Gate {
     /// # Errors
     ///
     /// [`Refusal::BadProfile`].
+    ///
+    /// # Panics
+    ///
+    /// If the archive that is linked has another layout than this package ([`sys::LAYOUT`]).
     pub fn new(profile: u32, when_full: WhenFull, stamp: u32) -> Result<Gate, Refusal> {
+        let layout = sys::presscurlew_layout();
+        assert_eq!(layout, sys::LAYOUT, "the archive is not of this package");
         let turn = sys::presscurlew_make(profile, when_full as u32, stamp);
         accepted(turn.reply)?;
         Ok(Gate { state: turn.state })
+    }
+
+    /// The same, where the profile is known by its name. None of those that there are is refused.
+    ///
+    /// ```
+    /// use presscurlew::{Gate, Profile, WhenFull};
+    ///
+    /// let gate = Gate::of_profile(Profile::Adaptive, WhenFull::RefuseNew, 0)?;
+    /// assert_eq!(gate, Gate::new(3, WhenFull::RefuseNew, 0)?);
+    /// # Ok::<(), presscurlew::Refusal>(())
+    /// ```
+    ///
+    /// # Errors
+    ///
+    /// Those of [`Gate::new`].
+    pub fn of_profile(profile: Profile, when_full: WhenFull, stamp: u32) -> Result<Gate, Refusal> {
+        Gate::new(profile.number(), when_full, stamp)
     }
 
     /// A sample of the channel by words: 1 to 12,500 probes in just enough words. Probe k is bit k mod 64 of word
@@ -370,21 +412,70 @@ impl Gate {
     /// # Errors
     ///
     /// Each answer has those of [`Gate::offer`].
+    #[cfg(feature = "alloc")]
+    #[must_use = "an offer may be refused: there is an answer for each"]
     pub fn offer_burst(&mut self, offers: &[(Offer, u32)]) -> Vec<Result<(), Refusal>> {
         let records: Vec<_> = offers.iter().map(|(o, stamp)| o.record(*stamp)).collect();
         self.offer_records(&records)
     }
 
+    /// The same where there is no heap: the answers go to the first places of `answers`.
+    ///
+    /// ```
+    /// use presscurlew::{Gate, Offer, Refusal, WhenFull};
+    ///
+    /// let mut gate = Gate::new(2, WhenFull::DropOldest, 0)?;
+    /// let warning = Offer { id: 1, priority: 0, ontime: 400, lifetime: 100_000 };
+    /// let too_long = Offer { id: 2, ontime: 501, ..warning };
+    /// let mut answers = [Ok(()); 2];
+    /// gate.offer_burst_into(&[(warning, 10), (too_long, 10)], &mut answers)?;
+    /// assert_eq!(answers, [Ok(()), Err(Refusal::BadOnTime)]);
+    /// # Ok::<(), Refusal>(())
+    /// ```
+    ///
+    /// # Errors
+    ///
+    /// [`Refusal::NoRoom`] if there are fewer places than offers; then nothing is offered.
+    pub fn offer_burst_into(
+        &mut self,
+        offers: &[(Offer, u32)],
+        answers: &mut [Result<(), Refusal>],
+    ) -> Result<(), Refusal> {
+        // As many records as a gate has places stand on the stack; bursts one after the other are one burst.
+        const MOST: usize = 20;
+        if answers.len() < offers.len() {
+            return Err(Refusal::NoRoom);
+        }
+        for (offers, answers) in offers.chunks(MOST).zip(answers.chunks_mut(MOST)) {
+            let mut records = [[0; sys::RECORD_BYTES]; MOST];
+            for (record, (offer, stamp)) in records.iter_mut().zip(offers) {
+                *record = offer.record(*stamp);
+            }
+            let mut bytes = [0; MOST];
+            self.burst(&records[..offers.len()], &mut bytes[..offers.len()]);
+            for (answer, byte) in answers.iter_mut().zip(&bytes[..offers.len()]) {
+                *answer = taken(*byte);
+            }
+        }
+        Ok(())
+    }
+
+    /// A burst of records, with a byte for each.
+    fn burst(&mut self, records: &[[u8; sys::RECORD_BYTES]], answers: &mut [u8]) {
+        let turn = sys::burst(self.state, records.as_flattened(), answers);
+        // Whole records and a byte for each: such a burst is not refused.
+        assert_eq!(turn.number, 0, "the archive refused a whole burst");
+        self.state = turn.state;
+    }
+
     /// A burst of records.
+    #[cfg(feature = "alloc")]
     pub(crate) fn offer_records(
         &mut self,
         records: &[[u8; sys::RECORD_BYTES]],
     ) -> Vec<Result<(), Refusal>> {
         let mut answers = vec![0; records.len()];
-        let turn = sys::burst(self.state, records.as_flattened(), &mut answers);
-        // Whole records and a byte for each: such a burst is not refused.
-        assert_eq!(turn.number, 0, "the archive refused a whole burst");
-        self.state = turn.state;
+        self.burst(records, &mut answers);
         answers.into_iter().map(taken).collect()
     }
 
@@ -444,7 +535,7 @@ impl Gate {
     /// for id in 0..3 {
     ///     gate.offer(Offer { id, priority: 1, ontime: 400, lifetime: 60_000 }, 0)?;
     /// }
-    /// gate.poll(0)?;
+    /// assert!(matches!(gate.poll(0)?, Answer::Sent(_)));
     /// assert_eq!(gate.counts(), Counts { accepted: 3, sent: 1, ..Counts::default() });
     ///
     /// // The gate opens after 100 ms: too late for the other two.

@@ -21,6 +21,7 @@
 use std::error::Error;
 use std::fmt;
 use std::io::{self, Write};
+use std::vec::Vec;
 
 use crate::gate::{Answer, Gate, Offer, Refusal, WhenFull};
 use crate::sys::{self, RECORD_BYTES};
@@ -270,7 +271,7 @@ impl<W> Recorder<W> {
     /// let mut disk = [0; 48];
     /// let mut gate = Recorder::new(1, WhenFull::DropOldest, 0, &mut disk[..])?;
     /// gate.sample_count(700, 1_000, 100)?;
-    /// gate.poll(200)?;
+    /// assert_eq!(gate.poll(200)?, Answer::Idle);
     /// assert!(matches!(gate.poll(300), Err(RecordError::Log(_))));
     ///
     /// let (mut gate, _) = gate.into_parts();

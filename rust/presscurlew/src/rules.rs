@@ -16,12 +16,13 @@
 //! assert_eq!(rules::wait(4, 0, 600_000, 400, 700_000), Ok(182_800));
 //! ```
 
-use std::error::Error;
-use std::fmt;
+use core::error::Error;
+use core::fmt;
 
 use crate::sys;
 
 /// Why a rule refused its numbers.
+#[non_exhaustive]
 #[derive(Clone, Copy, Debug, PartialEq, Eq, Hash)]
 pub enum RuleRefusal {
     /// The call does not take this profile.
@@ -44,18 +45,32 @@ impl RuleRefusal {
             RuleRefusal::OnTime => 6,
         }
     }
-}
 
-impl fmt::Display for RuleRefusal {
-    fn fmt(&self, f: &mut fmt::Formatter<'_>) -> fmt::Result {
-        f.write_str(match self {
+    /// The refusal's name, as `"BAD-LOAD"`.
+    pub const fn name(self) -> &'static str {
+        match self {
+            RuleRefusal::Profile => "BAD-PROFILE",
+            RuleRefusal::LevelOrDuty => "OUT-OF-RANGE",
+            RuleRefusal::Load => "BAD-LOAD",
+            RuleRefusal::OnTime => "BAD-ON-TIME",
+        }
+    }
+
+    const fn reason(self) -> &'static str {
+        match self {
             RuleRefusal::Profile => "the call does not take this profile",
             RuleRefusal::LevelOrDuty => {
                 "the level is above 4, or the duty is not 600,000 to 30,000,000"
             }
             RuleRefusal::Load => "a load is above 1,000,000",
             RuleRefusal::OnTime => "the profile does not allow this on-time",
-        })
+        }
+    }
+}
+
+impl fmt::Display for RuleRefusal {
+    fn fmt(&self, f: &mut fmt::Formatter<'_>) -> fmt::Result {
+        write!(f, "{}: {}", self.name(), self.reason())
     }
 }
 

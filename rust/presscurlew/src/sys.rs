@@ -71,9 +71,22 @@ pub struct FloatAnswer {
     pub duty: f64,
 }
 
+/// The version of this package as the archive's [`presscurlew_version`] has it: a million for each major and a thousand
+/// for each minor number.
+pub const VERSION_NUMBER: u32 = 9_000;
+/// The number of the layout that this module declares. An archive whose [`presscurlew_layout`] is another one has
+/// other structs or other calls, and must not be called; [`crate::Gate::new`] sees to it.
+pub const LAYOUT: u32 = 1_253_097_843;
+
 // Safe to call: the archives' functions answer any numbers at all, and touch no memory of the caller's.
 #[allow(unsafe_code)]
 unsafe extern "C" {
+    /// The archive's [`VERSION_NUMBER`].
+    pub safe fn presscurlew_version() -> u32;
+
+    /// The archive's [`LAYOUT`].
+    pub safe fn presscurlew_layout() -> u32;
+
     /// The level that a load wants, in profile 1 or 2.
     pub safe fn presscurlew_wanted_level(profile: u32, load: u32) -> LevelAnswer;
 
@@ -266,6 +279,7 @@ pub struct Reply {
 }
 
 /// What a call hands back.
+#[must_use]
 #[repr(C)]
 #[derive(Clone, Copy, Debug, Default, PartialEq, Eq, Hash)]
 pub struct Turn {
@@ -276,6 +290,7 @@ pub struct Turn {
 }
 
 /// What a burst hands back.
+#[must_use]
 #[repr(C)]
 #[derive(Clone, Copy, Debug, Default, PartialEq, Eq, Hash)]
 pub struct BurstTurn {
@@ -458,6 +473,7 @@ pub fn burst(state: State, records: &[u8], answers: &mut [u8]) -> BurstTurn {
 /// assert_eq!(sys::write_make(255, sys::REFUSE_NEW, 0, &mut log, 5), 12);
 /// ```
 #[allow(unsafe_code)]
+#[must_use]
 pub fn write_make(profile: u32, when_full: u32, stamp: u32, log: &mut [u8], at: usize) -> u32 {
     // SAFETY: the slice has `log.len()` bytes.
     unsafe { presscurlew_write_make(profile, when_full, stamp, log.as_mut_ptr(), log.len(), at) }
@@ -478,6 +494,7 @@ pub fn write_make(profile: u32, when_full: u32, stamp: u32, log: &mut [u8], at: 
 /// assert_eq!(sys::write_sample_words(12_500, &words[1..], 77, &mut one, 0), 4);
 /// ```
 #[allow(unsafe_code)]
+#[must_use]
 pub fn write_sample_words(
     probes: u32,
     words: &[u64],
@@ -507,6 +524,7 @@ pub fn write_sample_words(
 /// assert_eq!(sys::write_sample_count(3, 0, 77, &mut log, 0), 4);
 /// ```
 #[allow(unsafe_code)]
+#[must_use]
 pub fn write_sample_count(busy: u32, probes: u32, stamp: u32, log: &mut [u8], at: usize) -> u32 {
     let (place, bytes) = (log.as_mut_ptr(), log.len());
     // SAFETY: the slice has so many bytes.
@@ -529,6 +547,7 @@ pub fn write_sample_count(busy: u32, probes: u32, stamp: u32, log: &mut [u8], at
 /// assert_eq!(sys::write_offer(Offer { ontime: 65_536, ..offer }, 77, &mut log, 0), 6);
 /// ```
 #[allow(unsafe_code)]
+#[must_use]
 pub fn write_offer(offer: crate::Offer, stamp: u32, log: &mut [u8], at: usize) -> u32 {
     let crate::Offer {
         id,
@@ -544,6 +563,7 @@ pub fn write_offer(offer: crate::Offer, stamp: u32, log: &mut [u8], at: usize) -
 /// Writes a poll's record: 16 bytes at `at` of the log. The answer is 0, or 12 if there are no 16 bytes at `at`; then
 /// nothing is written.
 #[allow(unsafe_code)]
+#[must_use]
 pub fn write_poll(stamp: u32, log: &mut [u8], at: usize) -> u32 {
     // SAFETY: the slice has `log.len()` bytes.
     unsafe { presscurlew_write_poll(stamp, log.as_mut_ptr(), log.len(), at) }
@@ -553,7 +573,7 @@ pub fn write_poll(stamp: u32, log: &mut [u8], at: usize) -> u32 {
 #[allow(unsafe_code)]
 mod tests {
     use super::*;
-    use std::ptr;
+    use core::ptr;
 
     #[test]
     fn no_words_may_be_a_null_pointer() {

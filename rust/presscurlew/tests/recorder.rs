@@ -395,7 +395,7 @@ fn the_log_of_a_crash_has_the_last_call() {
         let mut gate = Recorder::new(1, WhenFull::DropOldest, 0, sink).expect("profile 1");
         let crash = catch_unwind(AssertUnwindSafe(|| {
             for stamp in 1..10 {
-                gate.poll(stamp).expect("a poll is taken");
+                assert_eq!(gate.poll(stamp).expect("a poll is taken"), Answer::Idle);
             }
         }));
         assert!(crash.is_err());

@@ -158,7 +158,7 @@ fn archive_record(start: Start, row: &[Call]) -> End {
     let (mut record, samples) = ([0; sys::RECORD_BYTES], start.samples);
     for &[which, stamp] in row {
         let words = samples.words_of(which);
-        sys::write_sample_words(samples.probes, words, stamp, &mut record, 0);
+        let _ = sys::write_sample_words(samples.probes, words, stamp, &mut record, 0);
     }
     End::of_record(record)
 }

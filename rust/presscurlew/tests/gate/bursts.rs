@@ -9,7 +9,7 @@ use crate::help::{
 };
 use crate::refusals::late;
 use crate::sound_states::sound_state;
-use presscurlew::{sys, Gate, Offer, Refusal};
+use presscurlew::{sys, Gate, Offer, Refusal, WhenFull};
 use reference::book::Book;
 use reference::burst::burst;
 use reference::log::Record;
@@ -520,7 +520,7 @@ fn any_offer(rng: &mut Rng, last: u32) -> (Offer, u32) {
     (offer, last.wrapping_add(step))
 }
 
-/// Two gates, one by bursts and one by single offers: the same answers, the same states.
+/// Three gates, by bursts, by bursts without a heap and by single offers: the same answers, the same states.
 #[test]
 fn a_gate_takes_bursts_as_single_offers() {
     let mut seen = [0; 14];
@@ -528,6 +528,7 @@ fn a_gate_takes_bursts_as_single_offers() {
         let mut rng = Rng::new(0xb045e + u64::from(profile));
         let (start, way) = (rng.next_u32(), WHEN_FULL[way as usize]);
         let mut bursting = Gate::new(profile, way, start).unwrap();
+        let mut heapless = Gate::new(profile, way, start).unwrap();
         let mut single = Gate::new(profile, way, start).unwrap();
         for index in 0..10_000 {
             let (mut offers, mut expected) = (vec![], vec![]);
@@ -541,8 +542,15 @@ fn a_gate_takes_bursts_as_single_offers() {
                 answers, expected,
                 "profile {profile}, burst {index}: {offers:?}"
             );
+            let mut places = vec![Err(Refusal::TornLog); offers.len() + 1];
+            assert_eq!(heapless.offer_burst_into(&offers, &mut places), Ok(()));
+            assert_eq!(places.pop(), Some(Err(Refusal::TornLog)));
+            assert_eq!(places, expected, "profile {profile}, burst {index}");
             let stamp = single.state().clock.stamp.wrapping_add(20_000);
-            assert_eq!(bursting.poll(stamp), single.poll(stamp));
+            let polled = single.poll(stamp);
+            assert_eq!(heapless.poll(stamp), polled);
+            assert_eq!(bursting.poll(stamp), polled);
+            assert_eq!(heapless, single, "profile {profile}, burst {index}");
             assert_eq!(bursting, single, "profile {profile}, burst {index}");
             let number = |answer: Result<(), Refusal>| answer.map_or_else(Refusal::number, |()| 0);
             (answers.into_iter()).for_each(|answer| seen[number(answer) as usize] += 1);
@@ -550,5 +558,20 @@ fn a_gate_takes_bursts_as_single_offers() {
     }
     for number in [0, 2, 5, 6, 7, 8] {
         assert!(seen[number] > 1_000, "{number} came {} times", seen[number]);
+    }
+}
+
+/// A burst without a heap that has too few places offers nothing.
+#[test]
+fn a_burst_without_places_is_refused() {
+    let mut rng = Rng::new(0xb045f);
+    for count in 1..50 {
+        let mut gate = Gate::new(1, WhenFull::DropOldest, 0).unwrap();
+        let offers: Vec<_> = (0..count).map(|_| any_offer(&mut rng, 0)).collect();
+        let mut places = vec![Err(Refusal::TornLog); count - 1];
+        let answer = gate.offer_burst_into(&offers, &mut places);
+        assert_eq!(answer, Err(Refusal::NoRoom), "{count} offers");
+        assert!(places.iter().all(|place| *place == Err(Refusal::TornLog)));
+        assert_eq!(gate, Gate::new(1, WhenFull::DropOldest, 0).unwrap());
     }
 }

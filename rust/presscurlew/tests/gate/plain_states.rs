@@ -95,7 +95,7 @@ fn hold_all_calls(state: &State, origin: &dyn Display) {
     for step in [0, 1_000, 1 << 31] {
         let stamp = state.clock.stamp.wrapping_add(step);
         for call in calls_at(profile, stamp) {
-            hold_no_state(state, &call, origin);
+            let _ = hold_no_state(state, &call, origin);
         }
         let records = [2, 3, 0, 2, 1, 255, 2].map(|kind| Record {
             kind,
@@ -232,7 +232,8 @@ fn six_of_a_priority_are_refused_with_9() {
                     let before = state;
                     state.line.packets[place].priority = priority;
                     if many(&state) < 6 {
-                        hold_alike(&state, &calls_at(profile, 78)[0], &"five of a priority");
+                        let _ =
+                            hold_alike(&state, &calls_at(profile, 78)[0], &"five of a priority");
                         continue;
                     }
                     hold_all_calls(&state, &format_args!("six of a priority: {state:?}"));

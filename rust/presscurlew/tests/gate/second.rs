@@ -588,7 +588,9 @@ fn a_gate_keeps_the_second() {
     };
     for id in 0..8 {
         gate.offer(offer(id), id * 133_334).unwrap();
-        gate.poll(id * 133_334).unwrap();
+        let answer = gate.poll(id * 133_334).unwrap();
+        let sent = matches!(answer, presscurlew::Answer::Sent(_));
+        assert_eq!(sent, id < 7);
     }
     let ledger = &gate.state().ledger;
     let ats = [0, 133_334, 266_668, 400_002, 533_336, 666_670, 800_004];
