@@ -43,11 +43,10 @@ empty-list : badList (list 40000 [] []) ≡ true
 unfolding of-lists
 empty-list = refl
 
-nine-levels :
-    map badList
-    (levelsOf 9 40000 (eight .above) (eight .waits)
-    ∷ levelsOf 9 40000 (1 ∷ 2 ∷ 3 ∷ 4 ∷ 5 ∷ 6 ∷ 7 ∷ 8 ∷ 9 ∷ []) (replicate 9 40000) ∷ [])
-    ≡ true ∷ true ∷ []
+abbrev ninth : Levels
+ninth = levelsOf 9 40000 (1 ∷ 2 ∷ 3 ∷ 4 ∷ 5 ∷ 6 ∷ 7 ∷ 8 ∷ 9 ∷ []) (replicate 9 40000)
+
+nine-levels : map badList (levelsOf 9 40000 (eight .above) (eight .waits) ∷ ninth ∷ []) ≡ true ∷ true ∷ []
 unfolding of-lists
 nine-levels = refl
 
@@ -114,6 +113,16 @@ tidy-list : tidied littered ≡ list 40000 (5 ∷ []) (40000 ∷ [])
 unfolding of-lists
 tidy-list = refl
 
+-- whatever the length says, no more than 8 are read
+ninth-unread : tidied ninth ≡ list 40000 (1 ∷ 2 ∷ 3 ∷ 4 ∷ 5 ∷ 6 ∷ 7 ∷ 8 ∷ []) (replicate 8 40000)
+unfolding of-lists
+ninth-unread = refl
+
+-- "level 0 has threshold 0"
+thresholds-of-levels : map (thresholdAt (thresholds eight)) (0 ∷ 1 ∷ 2 ∷ 8 ∷ []) ≡ 0 ∷ 1 ∷ 2 ∷ 1000000 ∷ []
+unfolding of-lists
+thresholds-of-levels = refl
+
 -- "level 0 has .. a wait of its own"; each other level has that at its place; a level that is not of the list waits the longest
 waits-of-levels :
     map (waitOf (list 40000 (5 ∷ 6 ∷ []) (50000 ∷ 60000 ∷ []))) (0 ∷ 1 ∷ 2 ∷ 3 ∷ 8 ∷ 9 ∷ [])
@@ -153,6 +162,10 @@ loads-judged = refl
 in-order : packed (noted (noted (noted [] 7) 8) 9) ≡ loadsOf 3 (7 ∷ 8 ∷ 9 ∷ replicate 47 0)
 unfolding of-loads
 in-order = refl
+
+-- a length past the array reads all of it
+too-long : loads (loadsOf 51 (replicate 50 3)) ≡ replicate 50 3
+too-long = refl
 
 oldest-goes : noted (7 ∷ 8 ∷ replicate 48 5) 9 ≡ 8 ∷ (replicate 48 5 ++ (9 ∷ []))
 oldest-goes = refl
