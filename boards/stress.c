@@ -17,7 +17,7 @@
 #define ROUNDS 4
 #endif
 
-enum { STEPS = 1250, GATES = 8, RECORDS = 6 };
+enum { STEPS = 1250, RECORDS = 6 };
 
 static uint64_t seed = 88172645463325252u, sum = 1, calls;
 static uint32_t kinds[6], refusals[16], longest_ledger;
@@ -605,8 +605,10 @@ int main(void) {
     for (uint32_t round = 1; round <= ROUNDS; round++) {
         new_stretch(1);
         play_none();
-        for (uint32_t i = 0; i < GATES; i++)
-            play(1 + i / 2, i % 2);
+        for (uint32_t profile = 1; presscurlew_make(profile, 0, 0).reply.kind == PRESSCURLEW_READY; profile++) {
+            play(profile, PRESSCURLEW_DROP_OLDEST);
+            play(profile, PRESSCURLEW_REFUSE_NEW);
+        }
         printf("round %" PRIu32 ": %" PRIu64 " calls, sum %016" PRIx64 ", ledger up to %" PRIu32, round, calls, sum,
                longest_ledger);
         printf("; answers");
