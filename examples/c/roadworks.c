@@ -63,13 +63,6 @@ typedef struct host {
 
 static uint32_t since_start_ms(const host *h) { return (h->now - START) / 1000; }
 
-static const char *refusal_name(uint64_t number) {
-    static const char *const names[] = {"",           "BAD-PROFILE", "CLOCK-BACK",   "CLOCK-END",  "BAD-SAMPLE",
-                                        "BAD-PRIORITY", "BAD-ON-TIME", "BAD-LIFETIME", "QUEUE-FULL", "NO-STATE",
-                                        "BAD-KIND",     "SPENT"};
-    return number < sizeof names / sizeof names[0] ? names[number] : "?";
-}
-
 /* This host does nothing that it has not recorded: it ends. Another may go on, and say so. */
 static void give_up(const char *what) {
     perror(what);
@@ -156,7 +149,7 @@ static void offer_burst(host *h) {
             continue;
         h->refused++;
         printf("%5" PRIu32 " ms  %s %" PRIu32 " refused: %s\n", since_start_ms(h), messages[h->ids[i] & 3].name,
-               h->ids[i] >> 2, refusal_name(answers[i]));
+               h->ids[i] >> 2, presscurlew_refusal_name(answers[i]));
     }
     h->ready = 0;
 }
@@ -188,7 +181,7 @@ static void poll(host *h) {
     case PRESSCURLEW_IDLE:
         break;
     default:
-        printf("%5" PRIu32 " ms  poll refused: %s\n", since_start_ms(h), refusal_name(turn.reply.number));
+        printf("%5" PRIu32 " ms  poll refused: %s\n", since_start_ms(h), presscurlew_refusal_name(turn.reply.number));
     }
 }
 
@@ -260,6 +253,10 @@ static int make(host *h) {
 int main(int argc, char **argv) {
     host h = {.now = START, .silent_until = START + SILENCE_US, .quiet_until = START};
 
+    if (presscurlew_layout() != PRESSCURLEW_LAYOUT) {
+        fputs("the archive is not of this presscurlew.h\n", stderr);
+        return 1;
+    }
     h.log = open_file(argc > 1 ? argv[1] : NULL);
     h.answers = open_file(argc > 2 ? argv[2] : NULL);
     if (!make(&h))
