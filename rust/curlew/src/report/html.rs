@@ -75,7 +75,7 @@ pub fn page(
         verdict(wish, gathered, whole),
         faults(gathered),
         runs(gathered, whole),
-        figures(&gathered.measured),
+        figures(&gathered.measured, whole),
         packets(gathered),
         drawn(pictures, whole.runs),
         warnings(gathered),
@@ -163,13 +163,16 @@ fn was_were(many: u64, one: &str) -> String {
     format!("{} {word}", count(many, one))
 }
 
-fn figures(measured: &[Measured]) -> String {
+fn figures(measured: &[Measured], whole: &Whole) -> String {
     let mut text = "<h2>The figures, beside the label's</h2>\n\
         <p>The label says what can be counted on, however loud the neighbours are (docs/LABEL.md). \
         Beside each figure is the nearest that a run of this log came to it.</p>\n"
         .to_string();
     if measured.is_empty() {
         text += "<p>There was no run.</p>\n";
+    }
+    if whole.joined.broken() {
+        text += "<p class=\"wrong\">All runs together do not keep them: see above.</p>\n";
     }
     for one in measured {
         let rows: Vec<Vec<String>> = one.figures().iter().map(figure).collect();
@@ -375,7 +378,11 @@ fn run(line: &Line) -> Vec<String> {
             0 => moment(line.time),
             _ => format!("{}, then ?", moment(line.time)),
         },
-        line.pause.map_or("–".to_string(), span),
+        match (line.number, line.pause) {
+            (1, _) => "–".to_string(),
+            (_, Some(pause)) => span(pause),
+            (_, None) => "not known".to_string(),
+        },
     ];
     row.extend(counts.map(grouped));
     row.push(match line.faults {

@@ -283,6 +283,21 @@ fn many_runs() {
     assert_eq!(drawn(&page)[0], "Run 1");
 }
 
+/// Runs that each keep the label and together do not.
+#[test]
+fn restarts() {
+    let page = page_of(&example_bytes("restarts", "log"));
+    for words in [
+        "<p class=\"verdict bad\">NOT KEPT across restarts, though each run by itself was.",
+        "<b>Second.</b> NOT KEPT: the 28 ms from record 11 (run 3) to record 32 (run 10)",
+        "All runs together do not keep them: see above.",
+        "<td class=\"number\">250 ms</td>",
+        "<td class=\"number\">not known</td>",
+    ] {
+        assert!(page.contains(words), "no '{words}'");
+    }
+}
+
 /// The figures beside the label's are those that the example is there to show.
 #[test]
 fn the_figures_of_the_examples() {
