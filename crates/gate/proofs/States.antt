@@ -161,11 +161,7 @@ pub waiting-all : (qs : List Queue) → length qs ≡ 4 → waitingTo 4 qs ≡ h
 unfolding waitingTo
 waiting-all qs h = ap (waitingTo 4) (four-long qs h) ∙ omega arith
 
--- what a queue says of its length
-pub packed-count : (q : Queue) → Packed q → q .len ≡ length (items q)
-unfolding packed
-packed-count q p = ap (λ (x : Queue). x .len) p
-
+-- a sound queue is within its length
 pub sound-len : (profile now k : ℕ) (q : Queue) → soundQueue profile now k q ≡ true → q .len ≤ room
 unfolding soundQueue padded
 sound-len profile now k q e = leb-true (q .len) room (both (leb (q .len) room) _ (both (tidy q) _ e .0) .0)
