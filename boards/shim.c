@@ -43,7 +43,7 @@ AT(wait_answer, wait, 4);
 SIZE(float_answer, 24);
 AT(float_answer, smoothed, 8);
 AT(float_answer, duty, 16);
-_Static_assert(_Alignof(presscurlew_turn) == 8 && _Alignof(presscurlew_plain_turn) == 8, "the modules align turns to 8");
+_Static_assert(_Alignof(presscurlew_turn) == 8 && _Alignof(presscurlew_plain_turn) == 8, "turns are aligned to 8");
 _Static_assert(_Alignof(presscurlew_float_answer) == 8, "the modules align doubles to 8");
 _Static_assert(sizeof(slice) == 16 && _Alignof(slice) == 8 && offsetof(slice, length) == 8, "slice");
 _Static_assert(sizeof(void *) <= 8 && sizeof(size_t) == sizeof(void *), "an address fits its place in a slice");

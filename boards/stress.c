@@ -309,7 +309,8 @@ static void write_records(void) {
     uint32_t profile = below(one_in(4) ? 300 : 6), when_full = below(one_in(4) ? 3 : 2), stamp = (uint32_t)any();
     uint32_t wide = below(32), busy = (uint32_t)any() >> wide, id = (uint32_t)any();
     uint32_t probes = one_in(8) ? 1000 : below(20000);
-    uint32_t priority = below(one_in(4) ? 300 : 4), ontime = below(one_in(4) ? 70000 : 4001), lifetime = (uint32_t)any();
+    uint32_t priority = below(one_in(4) ? 300 : 4), ontime = below(one_in(4) ? 70000 : 4001);
+    uint32_t lifetime = (uint32_t)any();
     uint32_t bytes = below(sizeof log + 1), count, words_probes = draw_words(&count), far = below(40);
     size_t at = one_in(8) ? SIZE_MAX - far : far;
 
@@ -522,8 +523,8 @@ static void aside(void) {
 }
 
 /*
- * How the calls of the next stretch are drawn: short or long packets, a quiet or a loud channel, quick or slow, with steps
- * to where something happens or without.
+ * How the calls of the next stretch are drawn: short or long packets, a quiet or a loud channel, quick or slow, with
+ * steps to where something happens or without.
  */
 static void new_stretch(uint32_t profile) {
     static const uint32_t allowed[] = {1000, 1000, 500, 4000, 4000};
