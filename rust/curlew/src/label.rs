@@ -77,7 +77,7 @@ fn longest(profile: u32) -> u64 {
 
 /// The most that a profile is on air in any stretch: the least of what its shortest wait leaves, of 30 ms for each
 /// second begun, and of the ceiling where it is promised.
-fn most(profile: u32, stretch: u64) -> u64 {
+pub fn most(profile: u32, stretch: u64) -> u64 {
     let by_second = stretch.div_ceil(STRETCH) * STRETCH_MOST;
     let held = by_second.min(by_waits(profile, stretch));
     if !owes_ceiling(profile) {

@@ -3,10 +3,11 @@
 use std::cmp::Reverse;
 use std::collections::VecDeque;
 
-use reference::book::{self, STRETCH, STRETCH_MOST};
+use reference::book::{self, STRETCH};
 use reference::rules;
 
 use crate::follow::{Row, Run};
+use crate::label::most;
 use crate::stream::Said;
 use crate::text::{count, grouped, in_ms, moment, span};
 use crate::watch::{Wait, Window};
@@ -116,7 +117,7 @@ impl Measured {
             ("on air in any hour, at most", 3_600, self.hour.most),
         ];
         for (name, many, window) in windows {
-            figures.push(on_air(name, many * STRETCH_MOST, window));
+            figures.push(on_air(name, most(self.profile, many * STRETCH), window));
         }
         figures.push(self.ceiling());
         figures.push(self.floor());
