@@ -24,8 +24,8 @@
  * nothing of a call that breaks it.
  *
  * What it takes, as found by trying many states (docs/INTEGRATING.md has the figures; they are no bounds): up to some
- * 4,000 instructions a call, 17,000 for a burst of 20 offers; up to 7.2 kB of stack below the caller, who holds a state
- * of 1,104 bytes and a turn of 1,144. The archive has 32 kB and no variables, and needs memcpy and memset of libc.
+ * 4,000 instructions a call, 13,200 for a burst of 20 offers; up to 7.3 kB of stack below the caller, who holds a state
+ * of 1,104 bytes and a turn of 1,144. The archive has 34 kB and no variables, and needs memcpy and memset of libc.
  *
  * Units
  *   time      microseconds (us)
