@@ -1,16 +1,16 @@
 //! "Refusal numbers": each number at its boundary, and the order of checks.
 
-use crate::help::{assert_refused, fresh, late, old, Answer, PROFILES, WAYS};
+use crate::help::{assert_refused, fresh, late, list, made, old, Answer, ON_TIMES, PROFILES, WAYS};
 use reference::gate;
 use reference::state::State;
 
 const BACK: u32 = 2_147_483_648;
 
 #[test]
-fn make_takes_four_profiles() {
+fn make_takes_five_profiles() {
     for profile in PROFILES {
         for (oldway, stamp) in [(0, 0), (0, 1), (0, u32::MAX), (1, 0), (1, 7)] {
-            let (state, answer) = gate::make(profile, oldway, stamp);
+            let (state, answer) = made(profile, oldway, stamp);
             assert_eq!(answer, Answer::Ready);
             let expected = State {
                 live: true,
@@ -18,15 +18,16 @@ fn make_takes_four_profiles() {
                 oldway,
                 stamp,
                 duty: 600_000,
+                levels: list(profile),
                 ..State::default()
             };
             assert_eq!(state, expected);
         }
     }
-    for profile in [0, 5, 6, 255, 256, u32::MAX] {
+    for profile in [0, 6, 7, 255, 256, u32::MAX] {
         for oldway in [0, 1, 2] {
             let none = State::default();
-            assert_refused(none, gate::make(profile, oldway, 7), 1);
+            assert_refused(none, made(profile, oldway, 7), 1);
             assert!(!none.live);
         }
     }
@@ -36,10 +37,10 @@ fn make_takes_four_profiles() {
 fn make_takes_a_yes_or_a_no() {
     for profile in PROFILES {
         for oldway in WAYS {
-            assert_eq!(gate::make(profile, oldway, 7).1, Answer::Ready);
+            assert_eq!(made(profile, oldway, 7).1, Answer::Ready);
         }
         for oldway in [2, 3, 256, 1 << 31, u32::MAX] {
-            assert_refused(State::default(), gate::make(profile, oldway, 7), 1);
+            assert_refused(State::default(), made(profile, oldway, 7), 1);
         }
     }
 }
@@ -102,7 +103,7 @@ fn number_5_priority() {
 
 #[test]
 fn number_6_on_time() {
-    for (profile, most) in [(1, 1_000), (2, 500), (3, 4_000), (4, 4_000)] {
+    for (profile, most) in ON_TIMES {
         let state = fresh(profile);
         for ontime in [1, most] {
             assert_eq!(gate::offer(state, 1, 0, ontime, 1, 0).1, Answer::Taken);
