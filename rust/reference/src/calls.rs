@@ -37,6 +37,31 @@ pub const BAD_FLOAT: u32 = 14;
 /// W-213: a make of profile 5 with a list of levels that breaks a rule.
 pub const BAD_LIST: u32 = 15;
 
+/// The names of the refusal numbers, from 1 on.
+const NAMES: [&str; BAD_LIST as usize] = [
+    "BAD-PROFILE",
+    "CLOCK-BACK",
+    "CLOCK-END",
+    "BAD-SAMPLE",
+    "BAD-PRIORITY",
+    "BAD-ON-TIME",
+    "BAD-LIFETIME",
+    "QUEUE-FULL",
+    "NO-STATE",
+    "BAD-KIND",
+    "SPENT",
+    "NO-ROOM",
+    "TORN-LOG",
+    "BAD-FLOAT",
+    "BAD-LIST",
+];
+
+/// The name of a refusal number, if it is one.
+pub fn refusal_name(number: u32) -> Option<&'static str> {
+    let at = number.checked_sub(1)?;
+    NAMES.get(at as usize).copied()
+}
+
 /// A call on the state: everything but make.
 #[derive(Clone, Debug, PartialEq, Eq)]
 pub enum Call {

@@ -1,8 +1,8 @@
 //! "Refusal numbers": each number at its boundary, and the order of checks.
 
 use crate::help::{assert_refused, fresh, late, list, made, old, Answer, ON_TIMES, PROFILES, WAYS};
-use reference::gate;
 use reference::state::State;
+use reference::{calls, gate};
 
 const BACK: u32 = 2_147_483_648;
 
@@ -30,6 +30,32 @@ fn make_takes_five_profiles() {
             assert_refused(none, made(profile, oldway, 7), 1);
             assert!(!none.live);
         }
+    }
+}
+
+#[test]
+fn each_number_has_its_name() {
+    for (number, name) in [
+        (calls::BAD_PROFILE, "BAD-PROFILE"),
+        (calls::CLOCK_BACK, "CLOCK-BACK"),
+        (calls::CLOCK_END, "CLOCK-END"),
+        (calls::BAD_SAMPLE, "BAD-SAMPLE"),
+        (calls::BAD_PRIORITY, "BAD-PRIORITY"),
+        (calls::BAD_ON_TIME, "BAD-ON-TIME"),
+        (calls::BAD_LIFETIME, "BAD-LIFETIME"),
+        (calls::QUEUE_FULL, "QUEUE-FULL"),
+        (calls::NO_STATE, "NO-STATE"),
+        (calls::BAD_KIND, "BAD-KIND"),
+        (calls::SPENT, "SPENT"),
+        (calls::NO_ROOM, "NO-ROOM"),
+        (calls::TORN_LOG, "TORN-LOG"),
+        (calls::BAD_FLOAT, "BAD-FLOAT"),
+        (calls::BAD_LIST, "BAD-LIST"),
+    ] {
+        assert_eq!(calls::refusal_name(number), Some(name));
+    }
+    for none in [0, 16, u32::MAX] {
+        assert_eq!(calls::refusal_name(none), None);
     }
 }
 
