@@ -22,7 +22,11 @@ pub fn make(profile: u32, oldway: u32, levels: &Levels, stamp: u32) -> (State, A
     if rules::needs_list(profile) && !levels.good() {
         return (State::default(), Answer::Refused(BAD_LIST));
     }
-    (State::fresh(profile, oldway, levels, stamp), Answer::Ready)
+    let mut state = State::fresh(profile, oldway, stamp);
+    if rules::needs_list(profile) {
+        state.levels = levels.cleared();
+    }
+    (state, Answer::Ready)
 }
 
 /// A sample of so many probes, by words.

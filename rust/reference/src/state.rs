@@ -212,11 +212,9 @@ pub struct State {
 }
 
 impl State {
-    /// A fresh state. A profile that needs no list holds an empty one.
-    pub fn fresh(profile: u32, oldway: u32, levels: &Levels, stamp: u32) -> State {
-        let listed = rules::needs_list(profile).then(|| levels.cleared());
+    /// A fresh state, its list empty: profile 5's comes with make.
+    pub fn fresh(profile: u32, oldway: u32, stamp: u32) -> State {
         State {
-            levels: listed.unwrap_or_default(),
             live: true,
             profile,
             oldway,

@@ -49,6 +49,26 @@ fn the_constants_stand_together() {
     assert_eq!((floor(5), owes_ceiling(5)), (1_001_000, true));
 }
 
+/// The fifth profile: as fresh as the others, but for its list.
+#[test]
+fn a_fresh_state_has_its_list() {
+    for (oldway, stamp) in [(0, 0), (0, 1), (0, u32::MAX), (1, 0), (1, 7)] {
+        for list in [four_levels(), eight_levels()] {
+            let expected = State {
+                live: true,
+                profile: 5,
+                oldway,
+                stamp,
+                duty: 600_000,
+                levels: list,
+                ..State::default()
+            };
+            let result = gate::make(5, oldway, &list, stamp);
+            assert_eq!(result, (expected, Answer::Ready));
+        }
+    }
+}
+
 /// "A list of 1 to 8 levels above level 0".
 #[test]
 fn lists_of_1_to_8_levels_are_good() {
