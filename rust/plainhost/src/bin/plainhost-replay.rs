@@ -31,6 +31,7 @@ fn play(state: State, bytes: &[u8; RECORD_BYTES]) -> Turn {
             profile,
             oldway,
             stamp,
+            ..
         }) => plainhost::presscurlew_plain_make(profile, oldway, stamp),
         Ok(LogCall::On(call)) => on(state, &call),
         Err(number) => refused(state, number),
