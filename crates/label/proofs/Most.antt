@@ -79,8 +79,7 @@ module _ (profile from until : ℕ) where
   over next (a ∷ l) c h =
       on-test (λ x. Over next (cond x (a .ontime) 0 + airIn from until l)) (leb from (a .at) && ltb (a .at) until)
       (λ e.
-      let more = over (a .at) l (c .2) (is-inside from until (a .at) e .0) in
-      (
+      let more = over (a .at) l (c .2) (is-inside from until (a .at) e .0) in (
         suc (more .0),
         omega (arith, more .1, c .1, suc-mul (more .0) (k .ontime)),
         omega (

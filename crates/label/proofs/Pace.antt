@@ -70,8 +70,7 @@ module _ (v : View) (j : Journal) (i : Tied v j) (h : SoundView v) (s : Paced (v
   sent-paced l ls e ready =
       let chosen = rw (chosen-lowest v j i, e) at (chosen-queued v h) in
       let is-open = not-true (closed v) (both (not (closed v)) (airAllows (l .packet .ontime) (v .ledger)) ready .0) in
-      subst (λ (c : List Entry). Paced (v .control .profile) (sentOf j (take 1 c) .admissions)) (sym e)
-      (
+      subst (λ (c : List Entry). Paced (v .control .profile) (sentOf j (take 1 c) .admissions)) (sym e) (
         allowed (v .control .profile) (l .packet .ontime) (chosen .2 .order .0 .ontime) .1,
         subst (λ (t : ℕ). Chain (Waits (v .control .profile)) (Allows (v .control .profile)) t (j .admissions)) (i .time)
             (open-paced v (j .admissions) h (i .newest) s is-open),

@@ -55,9 +55,9 @@ unfolding lowOf highOf
 low-high xs =
     on-cond (λ n. n ≤ greatestOf (lastOf mostLoads xs)) (ltb (length xs) 10) (λ e. omega arith)
     (λ e. rw (← ten-of-fifty xs) (
-      let k = (length xs - 10) - (length xs - mostLoads) in
-      let ys = lastOf mostLoads xs in
-      omega (arith, least-greatest (drop k ys), greatest-drop 0 k ys)))
+    let k = (length xs - 10) - (length xs - mostLoads) in
+    let ys = lastOf mostLoads xs in
+    omega (arith, least-greatest (drop k ys), greatest-drop 0 k ys)))
 
 highest-le : (ts : List ℕ) (load n : ℕ) → highestTo ts load n ≤ n
 unfolding highestTo
