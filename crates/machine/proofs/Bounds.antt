@@ -1,20 +1,18 @@
 -- The last ten are among the last fifty, so the least of the ten is at most the greatest of the fifty; a greater load reaches no
 -- lower level, so up is at most down. A level held between the two is moved no further than to the nearer of them.
-use Prim.Native.Nat.{ℕ, zero, suc, _+_, _-_, _≤_, _<_, min, max}
-use mathlib.Core.Path.{_≡_, refl, ap, sym, _∙_}
-use mathlib.Core.Bool.{true, false, cond}
+use Prim.Native.Nat.{ℕ, zero, suc, _+_, _-_, _≤_, min, max}
+use mathlib.Core.Path.{_≡_, ap, _∙_}
 use mathlib.Core.List.{List, [], _∷_}
 use native.Mathlib.Omega.{arith}
 use lib.Dec.{leb, ltb}
-use lib.ListN.{length, drop, getD, length-drop}
+use lib.ListN.{length, drop}
 use lib.Seq.{drop-drop}
-use borrow.Author.Tests.{leb-true, leb-false, ltb-false}
+use borrow.Author.Tests.{leb-true, leb-false}
 use Rattle.rules.proofs.Cases.{split, on-cond}
-use Rattle.rules.proofs.Tests.{tested}
 use Rattle.machine.specs.Levels.{thresholdAt}
 use Rattle.machine.specs.Loads.{lastOf, mostLoads}
-use Rattle.machine.specs.Moves.{leastFrom, greatestFrom, leastOf, greatestOf, lowOf, highOf, highestTo, highest, upOf, downOf}
-use Rattle.machine.specs.Moves.{levelAfter, apart, Highest, Moves, AlwaysHighest, AlwaysMoves}
+use Rattle.machine.specs.Moves.{leastFrom, greatestFrom, leastOf, greatestOf, lowOf, highOf, highestTo, highest}
+use Rattle.machine.specs.Moves.{upOf, downOf, levelAfter, AlwaysHighest, AlwaysMoves}
 
 least-le : (m : ℕ) (xs : List ℕ) → leastFrom m xs ≤ m
 unfolding leastFrom

@@ -2,21 +2,21 @@
 -- good exactly if it is what the paper asks: a test of all of a list is the test of each place, and strictly rising is each
 -- above the one before it.
 use Prim.Native.Nat.{ℕ, zero, suc, _≤_, _<_, min}
-use mathlib.Core.Path.{_≡_, refl, ap, sym, _∙_}
-use mathlib.Core.Bool.{Bool, true, false, not, _&&_, and-true, and-false}
+use mathlib.Core.Path.{_≡_, refl, ap, _∙_}
+use mathlib.Core.Bool.{Bool, true, false, not, and-true, and-false}
 use mathlib.Core.List.{List, [], _∷_}
 use native.Mathlib.Omega.{arith}
 use lib.Dec.{leb, ltb}
-use lib.ListN.{length, take, drop, getD}
+use lib.ListN.{length, take, getD}
 use borrow.Author.Tests.{le-leb, lt-leb, leb-true, lt-ltb, ltb-true, not-false}
 use Rattle.rules.specs.Profiles.{within, fullLoad}
 use Rattle.rules.proofs.Cases.{both, within-true, true-within}
 use Rattle.rules.proofs.Tests.{all-true}
-use Rattle.packing.specs.Packing.{allAre, isUnused}
+use Rattle.packing.specs.Packing.{allAre}
 use Rattle.machine.specs.declared.Levels.{Levels}
 use Rattle.machine.specs.Levels.{mostLevels, leastListed, mostListed, waitAllowed, thresholdAllowed, listed, thresholds}
-use Rattle.machine.specs.Levels.{waits, thresholdAt, waitAt, waitOf, rising, listRules, goodList, soundList, Good, ListsJudged}
-use Rattle.machine.proofs.Parts.{length-listed, before-end}
+use Rattle.machine.specs.Levels.{waits, thresholdAt, waitAt, rising, listRules, goodList, Good, ListsJudged}
+use Rattle.machine.proofs.Parts.{length-listed}
 
 -- of a list of up to 8 levels all are read
 pub few-listed : (n : ℕ) (xs : List ℕ) → n ≤ 8 → listed n xs ≡ take n xs
@@ -181,7 +181,9 @@ good-judged l g =
       rise = at-rise 0 ts
           (λ n h. rw (threshold-is ts n, threshold-is ts (suc n)) at (g .rise n (omega arith)));
       most = at-all thresholdAllowed 0 ts
-          (λ n h. true-within 0 fullLoad (getD ts n 0) (omega arith) (rw (threshold-is ts (suc n)) at (g .most (suc n) (omega arith))));
+          (λ n h.
+          true-within 0 fullLoad (getD ts n 0) (omega arith)
+          (rw (threshold-is ts (suc n)) at (g .most (suc n) (omega arith))));
     })
     ∙ at-all waitAllowed mostListed (waits l)
     (λ n h. true-within leastListed mostListed (getD (waits l) n mostListed) (g .least-wait (suc n) (omega arith))

@@ -2,11 +2,11 @@
 -- last place. What was sound stays so, since no load is put in that is not allowed and the room is filled with zeros.
 use Prim.Native.Nat.{ℕ, zero, suc, _+_, _-_, _≤_, _<_}
 use mathlib.Core.Path.{_≡_, refl, ap, ap₂, sym, _∙_}
-use mathlib.Core.Bool.{Bool, true, _&&_}
+use mathlib.Core.Bool.{Bool, true}
 use mathlib.Core.List.{List, [], _∷_, _++_, append-nil}
 use native.Mathlib.Omega.{arith}
 use lib.Dec.{leb}
-use lib.ListN.{length, take, drop, set, replicate, length-append, length-drop, length-take, drop-of-length-le}
+use lib.ListN.{length, take, drop, set, length-append, length-drop, drop-of-length-le}
 use lib.Seq.{take-all, drop-append-le, set-split, length-take-le}
 use borrow.Author.Tests.{eqb-true, leb-true}
 use Rattle.rules.specs.Profiles.{fullLoad}
@@ -14,7 +14,7 @@ use Rattle.rules.proofs.Cases.{both, true-within}
 use Rattle.packing.specs.Packing.{filled, allAre, padded, isUnused}
 use Rattle.packing.proofs.Packing.{set-filled, list-filled, padded-filled, filled-padded}
 use Rattle.machine.specs.declared.Loads.{Loads}
-use Rattle.machine.specs.Loads.{mostLoads, loadAllowed, loadsOf, loads, lastOf, noted, packed, soundLoads, NotedStaySound}
+use Rattle.machine.specs.Loads.{mostLoads, loadAllowed, loadsOf, loads, noted, packed, soundLoads, NotedStaySound}
 
 same : (m n : ℕ) (a b : List ℕ) → m ≡ n → a ≡ b → loadsOf m a ≡ loadsOf n b
 same m n a b e f = λ i. loadsOf (e i) (f i)

@@ -1,8 +1,8 @@
 -- A good list's levels are all read, so the room filled with them gives them back, with zeros behind; and the waits of a good
 -- list keep the limits.
 use Prim.Native.Nat.{ℕ, _≤_, min}
-use mathlib.Core.Path.{_≡_, refl, ap, sym, _∙_}
-use mathlib.Core.Bool.{Bool, true, _&&_}
+use mathlib.Core.Path.{_≡_, refl, ap, _∙_}
+use mathlib.Core.Bool.{true}
 use mathlib.Core.List.{List}
 use native.Mathlib.Omega.{arith}
 use lib.Dec.{leb}
@@ -13,8 +13,8 @@ use Rattle.rules.proofs.Cases.{both}
 use Rattle.packing.specs.Packing.{filled, allAre, padded, isUnused}
 use Rattle.packing.proofs.Packing.{length-filled, list-filled, filled-padded}
 use Rattle.machine.specs.declared.Levels.{Levels}
-use Rattle.machine.specs.Levels.{mostLevels, waitAllowed, thresholdAllowed, listed, thresholds, waits, waitAt, waitOf}
-use Rattle.machine.specs.Levels.{rising, goodList, soundList, tidied, Tidied, GoodIsTidied, WaitsListed}
+use Rattle.machine.specs.Levels.{mostLevels, waitAllowed, thresholdAllowed, listed, waits, waitAt}
+use Rattle.machine.specs.Levels.{rising, goodList, soundList, tidied, GoodIsTidied, WaitsListed}
 use Rattle.machine.proofs.Parts.{length-listed}
 use Rattle.machine.proofs.Judged.{rules-of, there, wait-within, by-waits}
 

@@ -1,5 +1,5 @@
--- A list of levels, the first edition's states (document 02, W-213; document 000, clause 6.4.3): what it means,
--- which list is good, and the wait of each level.
+-- A list of levels, the first edition's states (document 02, W-213; document 000, clause 6.4.3): what it
+-- means, which list is good, and the wait of each level.
 use Prim.Native.Nat.{ℕ, zero, suc, _≤_, _<_, min}
 use mathlib.Core.Path.{_≡_}
 use mathlib.Core.Bool.{Bool, true, false, not, _&&_}
@@ -63,9 +63,9 @@ rising before [] = true
 rising before (t ∷ ts) = ltb before t && rising t ts
 
 -- "a list of 1 to 8 levels above level 0, each with a load threshold up to 1,000,000 and a wait of 40,000 to
--- 1,000,000; level 0 has threshold 0 and a wait of its own in that range. Thresholds rise strictly". The length
--- is judged itself; there are as many thresholds and waits, which the arrays of 8 always have. What lies past
--- the length is no part of the list
+-- 1,000,000; level 0 has threshold 0 and a wait of its own in that range. Thresholds rise strictly". The
+-- length itself is judged; there are as many thresholds and waits, as in arrays of 8 there always are. What
+-- lies past the length is no part of the list
 abbrev pub listRules : Levels → List Bool
 listRules l =
     within 1 mostLevels (l .len)
@@ -121,7 +121,8 @@ pub record ListsJudged : Type 0 where
 
 -- every wait of a good list lies in the limits, whatever the level
 abbrev pub WaitsListed : Type 0
-WaitsListed = (l : Levels) (level : ℕ) → badList l ≡ false → (40000 ≤ waitOf l level) × (waitOf l level ≤ 1000000)
+WaitsListed =
+    (l : Levels) (level : ℕ) → badList l ≡ false → (40000 ≤ waitOf l level) × (waitOf l level ≤ 1000000)
 
 -- a good list, tidied, is a sound state's and means the same
 pub record Tidied (l : Levels) : Type 0 where

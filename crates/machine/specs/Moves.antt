@@ -1,8 +1,7 @@
--- How a sample moves the level (document 02, W-213; document 000, clause 6.4.2). EQ 24 and EQ 25 of document 000
--- print unlike indices, so document 02 decides.
-use Prim.Native.Nat.{ℕ, zero, suc, _+_, _-_, _≤_, _<_, min, max}
-use mathlib.Core.Path.{_≡_}
-use mathlib.Core.Bool.{cond, true}
+-- How a sample moves the level (document 02, W-213; document 000, clause 6.4.2). EQ 24 and EQ 25 of document
+-- 000 print unlike indices, so document 02 decides.
+use Prim.Native.Nat.{ℕ, zero, suc, _+_, _-_, _≤_, min, max}
+use mathlib.Core.Bool.{cond}
 use mathlib.Core.List.{List, [], _∷_}
 use lib.Dec.{leb, ltb}
 use lib.ListN.{length}
@@ -82,7 +81,8 @@ pub record Moves (ts xs : List ℕ) (level : ℕ) : Type 0 where
   pub from-up : upOf ts xs ≤ levelAfter ts xs level
   pub to-down : levelAfter ts xs level ≤ downOf ts xs
   -- "the least needed"
-  pub least : (n : ℕ) → upOf ts xs ≤ n → n ≤ downOf ts xs → apart level (levelAfter ts xs level) ≤ apart level n
+  pub least : (n : ℕ) → upOf ts xs ≤ n → n ≤ downOf ts xs
+      → apart level (levelAfter ts xs level) ≤ apart level n
   -- the level is one of the list
   pub level-listed : levelAfter ts xs level ≤ length ts
 

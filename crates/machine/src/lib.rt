@@ -1,15 +1,15 @@
 // The first edition's state machine: its list of levels, its last loads, the level that a sample leaves, and
-// the wait of a level (document 02, W-213). What reads numbers takes them as slices, so that a caller lends its
-// arrays where they lie; the methods do the same for the structs. Every function answers for every input.
+// the wait of a level (document 02, W-213). What reads numbers takes them as slices, so that a caller lends
+// its arrays where they lie; methods do the same for the structs. What is public answers for every input.
 ghost use mathlib.Core.Path.{_≡_};
 ghost use Prim.Native.Nat.{_≤_, _-_, min, max};
-ghost use lib.ListN.{length, take, drop};
+ghost use lib.ListN.{length, take};
 ghost use Rattle.rules.specs.Profiles.{within};
 ghost use Rattle.packing.specs.Packing.{allAre, filled, isUnused};
 ghost use Rattle.machine.specs.Levels.{listed, levelsOf, thresholds, waitAt, waitOf, rising};
 ghost use Rattle.machine.specs.Levels.{goodList, soundList, tidied, noneListed, noLevels};
 ghost use Rattle.machine.specs.Loads.{loads, loadsOf, noted, packed, soundLoads, noneHeld, noLoads};
-ghost use Rattle.machine.specs.Moves.{leastFrom, leastOf, greatestOf, lowOf, highOf, highest};
+ghost use Rattle.machine.specs.Moves.{leastOf, greatestOf, lowOf, highOf, highest};
 ghost use Rattle.machine.specs.Moves.{levelAfter, movedBy};
 
 // Up to 8 levels above level 0: how many, the wait of level 0, the threshold and the wait of each above it.
@@ -296,7 +296,13 @@ pub fn level_after<'a>(n: usize, above: &'a [u32], held: usize, slots: &'a [u32]
 {
     let up = highest_reached(n, above, low(held, slots));
     let down = highest_reached(n, above, high(held, slots));
-    rules::hold(up, down, level)
+    if level < up {
+        return up;
+    }
+    if down < level {
+        return down;
+    }
+    level
 }
 
 impl Levels {

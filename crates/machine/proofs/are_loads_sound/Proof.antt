@@ -1,7 +1,6 @@
 -- The length, then the room past the loads, then the loads.
 use Prim.Native.Nat.{_-_}
 use mathlib.Core.Path.{_≡_, ap, sym, _∙_}
-use mathlib.Core.Bool.{and-true, and-false}
 use lib.ListN.{length, take, drop}
 use lib.Seq.{length-take-le}
 use native.Mathlib.Omega.{arith}

@@ -10,7 +10,9 @@ use Rattle.machine.proofs.clear.Statement.{statement}
 use Rattle.machine.proofs.clear.Tie as tie
 
 abbrev Inv-loop : tie.InvT-loop
-Inv-loop n xs₀ i₀ xs i = (n ≤ i) × (i ≤ length xs₀) × (length xs ≡ length xs₀) × Stored (filled (length xs₀) 0 (take n xs₀)) xs₀ i xs
+Inv-loop n xs₀ i₀ xs i =
+    (n ≤ i) × (i ≤ length xs₀) × (length xs ≡ length xs₀)
+    × Stored (filled (length xs₀) 0 (take n xs₀)) xs₀ i xs
 
 abbrev μ-loop : tie.MeasureT-loop
 μ-loop n xs₀ i₀ xs i = length xs₀ - i

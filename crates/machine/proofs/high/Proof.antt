@@ -1,5 +1,5 @@
 -- The last 50 are a part of the array.
-use mathlib.Core.Path.{ap, sym, _∙_}
+use mathlib.Core.Path.{ap, _∙_}
 use Rattle.machine.specs.Moves.{greatestOf, highOf}
 use Rattle.machine.proofs.Parts.{last-part}
 use borrow.Author.Needs.{needs}

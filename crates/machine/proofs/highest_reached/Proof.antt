@@ -45,13 +45,19 @@ sub-if1 : tie.Need-sub-if1 Inv-loop μ-loop
 sub-if1 c = search needs
 
 mul-if1 : tie.Need-mul-if1 Inv-loop μ-loop
-mul-if1 c = let a = c .before in let s = a .before .before .before .before in omega (arith, bounds s (a .loop .k) (a .loop .inv .0))
+mul-if1 c =
+    let a = c .before in
+    omega (arith, bounds (a .before .before .before .before) (a .loop .k) (a .loop .inv .0))
 
 shared-slice-read-if1 : tie.Need-shared-slice-read-if1 Inv-loop μ-loop
-shared-slice-read-if1 c = let a = c .before .before in let s = a .before .before .before .before in omega (arith, bounds s (a .loop .k) (a .loop .inv .0))
+shared-slice-read-if1 c =
+    let a = c .before .before in
+    omega (arith, bounds (a .before .before .before .before) (a .loop .k) (a .loop .inv .0))
 
 cast-result : tie.Need-cast-result Inv-loop μ-loop
-cast-result c = let a = c .before .before .before in let s = a .before .before .before .before in omega (arith, bounds s (a .loop .k) (a .loop .inv .0))
+cast-result c =
+    let a = c .before .before .before in
+    omega (arith, bounds (a .before .before .before .before) (a .loop .k) (a .loop .inv .0))
 
 returns : tie.Need-returns Inv-loop μ-loop
 returns c =

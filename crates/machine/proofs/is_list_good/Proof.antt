@@ -2,16 +2,15 @@
 use Prim.Native.Nat.{_≤_}
 use mathlib.Core.Path.{_≡_, ap, sym, _∙_}
 use mathlib.Core.Bool.{true}
-use lib.ListN.{length, take}
+use lib.ListN.{length}
 use lib.Seq.{length-take-le}
-use native.Mathlib.Omega.{arith}
 use borrow.Author.Tests.{le-leb, lt-leb, not-true, not-false}
 use Rattle.rules.specs.Profiles.{within}
 use Rattle.rules.proofs.Cases.{true-within}
 use Rattle.packing.specs.Packing.{allAre}
 use Rattle.machine.specs.declared.Levels.{Levels}
-use Rattle.machine.specs.Levels.{levelsOf, waitAllowed, thresholdAllowed, thresholds, rising}
-use Rattle.machine.proofs.Judged.{few-listed, Rules, not-size, not-above, not-waits, not-own, not-rise, not-most, by-waits}
+use Rattle.machine.specs.Levels.{levelsOf, waitAllowed, thresholdAllowed, rising}
+use Rattle.machine.proofs.Judged.{few-listed, not-size, not-above, not-waits, not-own, not-rise, not-most, by-waits}
 use Rattle.machine.proofs.Judged.{too-few, too-many}
 use borrow.Author.Needs.{needs}
 use Rattle.machine.proofs.is_list_good.Statement.{statement}

@@ -1,8 +1,8 @@
--- Up is at most down, so the level can be held between them.
-use Prim.Native.Nat.{ℕ}
-use mathlib.Core.Path.{_≡_, ap, ap₂, _∙_}
+-- Up is at most down, so the level, moved up to the one or down to the other, lies between them.
+use Prim.Native.Nat.{_≤_}
+use mathlib.Core.Path.{_≡_, ap, _∙_}
 use lib.ListN.{take}
-use Rattle.rules.specs.Duty.{held}
+use native.Mathlib.Omega.{arith}
 use Rattle.machine.specs.Levels.{listed}
 use Rattle.machine.specs.Moves.{highest, upOf, downOf, levelAfter}
 use Rattle.machine.proofs.Bounds.{up-down}
@@ -22,33 +22,33 @@ high-requires c κs = search needs
 highest-reached-requires-2 : tie.Need-highest-reached-requires-2
 highest-reached-requires-2 c κs = search needs
 
--- the two levels that the level is held between
-up-is : (c : tie.After-highest-reached)
-    → (let s = c .before .before .before .before in
-    c .highest-reached .result ≡ upOf (listed (s .args .n) (s .args .above .now)) (take (s .args .held) (s .args .slots .now)))
-up-is c =
-    let s = c .before .before .before .before in
-    c .highest-reached .ensures ∙ ap (highest (listed (s .args .n) (s .args .above .now))) (c .before .low .ensures)
-
-down-is : (c : tie.After-highest-reached2)
+-- the two levels that the level must lie between
+bounds : (c : tie.After-highest-reached2)
     → (let s = c .before .before .before .before .before .before in
-    c .highest-reached2 .result ≡ downOf (listed (s .args .n) (s .args .above .now)) (take (s .args .held) (s .args .slots .now)))
-down-is c =
+    let ts = listed (s .args .n) (s .args .above .now) in
+    let xs = take (s .args .held) (s .args .slots .now) in
+    (c .before .before .highest-reached .result ≡ upOf ts xs) × (c .highest-reached2 .result ≡ downOf ts xs)
+    × (upOf ts xs ≤ downOf ts xs))
+bounds c =
     let s = c .before .before .before .before .before .before in
-    c .highest-reached2 .ensures ∙ ap (highest (listed (s .args .n) (s .args .above .now))) (c .before .high .ensures)
-
-hold-requires : tie.Need-hold-requires
-hold-requires c κs =
-    let s = c .before .before .before .before .before .before in
-    rw (up-is (c .before .before), down-is c)
-    (up-down (listed (s .args .n) (s .args .above .now)) (take (s .args .held) (s .args .slots .now)))
+    let ts = listed (s .args .n) (s .args .above .now) in
+    let u = c .before .before in (
+      u .highest-reached .ensures ∙ ap (highest ts) (u .before .low .ensures),
+      c .highest-reached2 .ensures ∙ ap (highest ts) (c .before .high .ensures),
+      up-down ts (take (s .args .held) (s .args .slots .now)),
+    )
 
 returns : tie.Need-returns
 unfolding levelAfter
-returns c =
-    let d = c .before in
-    let s = d .before .before .before .before .before .before in
-    c .hold .ensures ∙ ap₂ (λ (a b : ℕ). held a b (s .args .level)) (up-is (d .before .before)) (down-is d)
+returns c = omega (arith, bounds (c .before), c .if1 .taken)
+
+returns-2 : tie.Need-returns-2
+unfolding levelAfter
+returns-2 c = omega (arith, bounds (c .before .before), c .before .if1 .left, c .if2 .taken)
+
+returns-3 : tie.Need-returns-3
+unfolding levelAfter
+returns-3 c = omega (arith, bounds (c .before .before), c .before .if1 .left, c .if2 .left)
 
 pub level-after-spec : {M : Type 1} → statement M
 level-after-spec =
@@ -58,5 +58,6 @@ level-after-spec =
     highest-reached-requires
     high-requires
     highest-reached-requires-2
-    hold-requires
-    returns)
+    returns
+    returns-2
+    returns-3)

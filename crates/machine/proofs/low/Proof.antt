@@ -1,7 +1,6 @@
 -- Before there are ten it is 0; the last ten are a part of the array.
-use Prim.Native.Nat.{_≤_, min}
-use mathlib.Core.Path.{_≡_, ap, sym, _∙_}
-use mathlib.Core.Bool.{true, false}
+use mathlib.Core.Path.{_≡_, ap, _∙_}
+use mathlib.Core.Bool.{false}
 use lib.Dec.{ltb}
 use lib.ListN.{length, take, length-take}
 use native.Mathlib.Omega.{arith}

@@ -1,7 +1,6 @@
 -- Level 0 has its own wait; another has the wait at its place, or the longest past the list.
-use Prim.Native.Nat.{_-_, _≤_}
+use Prim.Native.Nat.{_-_}
 use mathlib.Core.Path.{sym, _∙_}
-use lib.ListN.{length}
 use native.Mathlib.Omega.{arith}
 use Rattle.machine.specs.Levels.{mostListed, listed, waitAt}
 use Rattle.machine.proofs.Parts.{length-listed, listed-at, wait-above, past-end, before-end}

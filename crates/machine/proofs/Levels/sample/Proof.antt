@@ -1,6 +1,6 @@
 -- The level is that of the loads as noted, and those in their room are those loads.
 use Prim.Native.Nat.{ℕ}
-use mathlib.Core.Path.{_≡_, ap, _∙_}
+use mathlib.Core.Path.{ap, _∙_}
 use mathlib.Core.List.{List}
 use Rattle.machine.specs.declared.Loads.{Loads}
 use Rattle.machine.specs.Levels.{thresholds}

@@ -1,10 +1,5 @@
 -- Each array is cleared behind the levels that are read.
-use Prim.Native.Nat.{ℕ, _≤_}
-use mathlib.Core.Path.{_≡_, refl, ap, _∙_}
-use mathlib.Core.List.{List}
-use lib.ListN.{length, take}
 use native.Mathlib.Omega.{arith}
-use Rattle.packing.specs.Packing.{filled}
 use Rattle.machine.specs.Levels.{levelsOf, tidied}
 use Rattle.machine.proofs.Known.{eight}
 use borrow.Author.Needs.{needs}
@@ -18,13 +13,19 @@ slice-aggregate-clear : tie.Need-slice-aggregate-clear
 slice-aggregate-clear c = search needs
 
 clear-requires : tie.Need-clear-requires
-clear-requires c κs = let f = c .before .before .before in let s = f .before in omega (arith, eight (s .args .self) _ (s .good .0) .0, f .fewer .ensures)
+clear-requires c κs =
+    let f = c .before .before .before in
+    let s = f .before in
+    omega (arith, eight (s .args .self) _ (s .good .0) .0, f .fewer .ensures)
 
 slice-aggregate-clear-2 : tie.Need-slice-aggregate-clear-2
 slice-aggregate-clear-2 c = search needs
 
 clear-requires-2 : tie.Need-clear-requires-2
-clear-requires-2 c κs = let f = c .before .before .before .before .before .before in let s = f .before in omega (arith, eight (s .args .self) _ (s .good .0) .1, f .fewer .ensures)
+clear-requires-2 c κs =
+    let f = c .before .before .before .before .before .before in
+    let s = f .before in
+    omega (arith, eight (s .args .self) _ (s .good .0) .1, f .fewer .ensures)
 
 returns : tie.Need-returns
 unfolding tidied

@@ -24,7 +24,9 @@ slice-aggregate-clear : tie.Need-slice-aggregate-clear Inv-loop μ-loop
 slice-aggregate-clear c = let s = c .before .before .before in sym (fifty (s .args .self) _ (s .good .0))
 
 clear-requires : tie.Need-clear-requires Inv-loop μ-loop
-clear-requires c κs = let s = c .before .before .before in omega (arith, fifty (s .args .self) _ (s .good .0), c .before .if1 .taken)
+clear-requires c κs =
+    let s = c .before .before .before in
+    omega (arith, fifty (s .args .self) _ (s .good .0), c .before .if1 .taken)
 
 mul-slots : tie.Need-mul-slots Inv-loop μ-loop
 mul-slots c = search needs
