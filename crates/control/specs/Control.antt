@@ -1,7 +1,8 @@
 -- What samples steer: how it starts, when it is sound, and what a sample does to it (document 01, "State and
 -- calls", "Samples"; document 02, W-209, W-213). A state has the groups of a control side by side.
-use Prim.Native.Nat.{ℕ}
-use mathlib.Core.Bool.{Bool, cond, _&&_}
+use Prim.Native.Nat.{ℕ, _≤_}
+use mathlib.Core.Path.{_≡_}
+use mathlib.Core.Bool.{Bool, true, cond, _&&_}
 use mathlib.Core.List.{List, [], _∷_}
 use lib.Dec.{leb, eqb}
 use Rattle.rules.specs.Tests.{allOf}
@@ -86,6 +87,14 @@ tuningRules profile listed t =
 -- what samples change, with the profile: "profile 1 to 3"; "a sound state may have profile 4" (document 02, W-209)
 unfoldable pub tuningSound : (profile listed : ℕ) → Tuning → Bool
 tuningSound profile listed t = isProfile profile && allOf (tuningRules profile listed t)
+
+-- what the arithmetic of samples and waits needs of them
+pub record Steerable (profile : ℕ) (t : Tuning) : Type 0 where
+  pub level : isReactive profile ≡ true → t .level ≤ topLevel
+  pub duty : dutyAllowed (t .duty) ≡ true
+  pub smoothed : t .smoothed ≤ fullLoad
+  pub kept : t .kept ≤ fullLoad
+  pub latest : t .latest ≤ fullLoad
 
 abbrev pub controlRules : Control → List Bool
 controlRules k =
