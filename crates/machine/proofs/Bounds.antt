@@ -11,15 +11,15 @@ use borrow.Author.Tests.{leb-true, leb-false}
 use Rattle.rules.proofs.Cases.{split, on-cond}
 use Rattle.machine.specs.Levels.{thresholdAt}
 use Rattle.machine.specs.Loads.{lastOf, mostLoads}
-use Rattle.machine.specs.Moves.{leastFrom, greatestFrom, leastOf, greatestOf, lowOf, highOf, highestTo, highest}
+use Rattle.machine.specs.Moves.{leastFrom, greatestFrom, leastOf, greatestOf, lowOver, lowOf, highOf, highestTo, highest}
 use Rattle.machine.specs.Moves.{upOf, downOf, levelAfter, AlwaysHighest, AlwaysMoves}
 
-least-le : (m : ℕ) (xs : List ℕ) → leastFrom m xs ≤ m
+pub least-le : (m : ℕ) (xs : List ℕ) → leastFrom m xs ≤ m
 unfolding leastFrom
 least-le m [] = omega arith
 least-le m (x ∷ xs) = omega (arith, least-le (min m x) xs)
 
-greatest-ge : (m : ℕ) (xs : List ℕ) → m ≤ greatestFrom m xs
+pub greatest-ge : (m : ℕ) (xs : List ℕ) → m ≤ greatestFrom m xs
 unfolding greatestFrom
 greatest-ge m [] = omega arith
 greatest-ge m (x ∷ xs) = omega (arith, greatest-ge (max m x) xs)
@@ -42,18 +42,18 @@ least-greatest [] = omega arith
 least-greatest (x ∷ xs) = omega (arith, least-le x xs, greatest-ge (max 0 x) xs)
 
 -- the last ten are among the last fifty
-ten-of-fifty : (xs : List ℕ) → drop ((length xs - 10) - (length xs - mostLoads)) (lastOf mostLoads xs) ≡ lastOf 10 xs
-ten-of-fifty xs =
+those-of-low : (xs : List ℕ) → drop ((length xs - lowOver) - (length xs - mostLoads)) (lastOf mostLoads xs) ≡ lastOf lowOver xs
+those-of-low xs =
     let n = length xs in
-    let e : (n - mostLoads) + ((n - 10) - (n - mostLoads)) ≡ n - 10 = omega arith in
-    drop-drop ((n - 10) - (n - mostLoads)) (n - mostLoads) xs ∙ ap (λ (k : ℕ). drop k xs) e
+    let e : (n - mostLoads) + ((n - lowOver) - (n - mostLoads)) ≡ n - lowOver = omega arith in
+    drop-drop ((n - lowOver) - (n - mostLoads)) (n - mostLoads) xs ∙ ap (λ (k : ℕ). drop k xs) e
 
 pub low-high : (xs : List ℕ) → lowOf xs ≤ highOf xs
 unfolding lowOf highOf
 low-high xs =
-    on-cond (λ n. n ≤ greatestOf (lastOf mostLoads xs)) (ltb (length xs) 10) (λ e. omega arith)
-    (λ e. rw (← ten-of-fifty xs) (
-    let k = (length xs - 10) - (length xs - mostLoads) in
+    on-cond (λ n. n ≤ greatestOf (lastOf mostLoads xs)) (ltb (length xs) lowOver) (λ e. omega arith)
+    (λ e. rw (← those-of-low xs) (
+    let k = (length xs - lowOver) - (length xs - mostLoads) in
     let ys = lastOf mostLoads xs in
     omega (arith, least-greatest (drop k ys), greatest-drop 0 k ys)))
 

@@ -5,4 +5,5 @@ pub mod Judged
 pub mod Tidying
 pub mod Noted
 pub mod Bounds
+pub mod Extremes
 pub mod Worked

@@ -5,7 +5,7 @@ use lib.Dec.{ltb}
 use lib.ListN.{length, take, length-take}
 use native.Mathlib.Omega.{arith}
 use borrow.Author.Tests.{lt-ltb, le-ltb}
-use Rattle.machine.specs.Moves.{leastOf, lowOf}
+use Rattle.machine.specs.Moves.{leastOf, lowOver, lowOf}
 use Rattle.machine.proofs.Parts.{last-part}
 use borrow.Author.Needs.{needs}
 use Rattle.machine.proofs.low.Statement.{statement}
@@ -20,7 +20,7 @@ returns c =
     let f = c .before in
     let s = f .before .before in
     let xs = s .args .slots .now in
-    rw (lt-ltb (length (take (s .args .n) xs)) 10
+    rw (lt-ltb (length (take (s .args .n) xs)) lowOver
     (omega (arith, length-take (s .args .n) xs, f .fewer .ensures, c .if1 .taken)))
 
 before-last-requires : tie.Need-before-last-requires
@@ -49,10 +49,10 @@ returns-2 c =
     let s = f .before .before in
     let n = s .args .n in
     let xs = s .args .slots .now in
-    let ten : ltb (length (take n xs)) 10 ≡ false =
-    le-ltb (length (take n xs)) 10 (omega (arith, length-take n xs, f .fewer .ensures, b .before .if1 .left)) in
+    let ten : ltb (length (take n xs)) lowOver ≡ false =
+    le-ltb (length (take n xs)) lowOver (omega (arith, length-take n xs, f .fewer .ensures, b .before .if1 .left)) in
     rw ten
-    (c .least .ensures ∙ ap leastOf (rw (b .before-last .ensures, f .fewer .ensures) (last-part 10 n xs)))
+    (c .least .ensures ∙ ap leastOf (rw (b .before-last .ensures, f .fewer .ensures) (last-part lowOver n xs)))
 
 pub low-spec : {M : Type 1} → statement M
 low-spec =
