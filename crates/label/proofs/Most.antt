@@ -3,7 +3,7 @@
 use Prim.Native.Nat.{ℕ, zero, suc, _+_, _-_, _*_, _/_, _%_, _≤_, _<_, min}
 use mathlib.Core.Path.{_≡_, refl, ap, sym, subst}
 use mathlib.Core.Bool.{true, cond, _&&_}
-use mathlib.Core.List.{List, [], _∷_}
+use mathlib.Core.List.{List, [], _∷_, _++_, map}
 use native.Mathlib.Nat.{suc-mul, mul-add, one-mul, mul-le-mul-right, mul-le-mul-left, mod-lt, div-add-mod'}
 use native.Mathlib.Omega.{arith}
 use lib.Dec.{leb, ltb}
@@ -12,7 +12,7 @@ use Rattle.rules.specs.Profiles.{within, limitsOf}
 use Rattle.rules.specs.Wait.{ceilDiv}
 use Rattle.rules.proofs.Cases.{split, on-test, clash}
 use Rattle.rules.proofs.Ceiling.{ceil-reaches}
-use Rattle.rules.proofs.Profiles.{on-limits, fromend-le}
+use Rattle.rules.proofs.Profiles.{fromend-le}
 use Rattle.rules.proofs.Tests.{tested}
 use Rattle.control.specs.Owed.{spare, second, leastGap, claimsCeiling}
 use Rattle.model.specs.declared.Admission.{Admission}
@@ -20,15 +20,15 @@ use Rattle.model.specs.Journal.{airTime, airIn}
 use Rattle.model.specs.Claims.{All, mostInSecond}
 use Rattle.model.proofs.DeliveryLines.{all-more}
 use Rattle.label.specs.Trailer.{Run, journal}
-use Rattle.label.specs.Restarts.{Started, sentInAll, silence, Restarts}
+use Rattle.label.specs.Restarts.{Started, later, sentInAll, silence, Silent}
 use Rattle.label.specs.OnAir.{onAir}
-use Rattle.label.specs.Most.{stride, byWaits, bySecond, byCeiling, most, Alike, AtMost, MostHolds, MostByProfile}
+use Rattle.label.specs.Most.{stride, byWaits, bySecond, byCeiling, byClaims, most, Alike, AtMost, MostHolds, MostByProfile}
 use Rattle.label.proofs.Second.{adds, none}
 use Rattle.label.proofs.Windows.{inside, is-inside, wider, one-more}
 use Rattle.label.proofs.Rows.{Chain, SoFar, so-far, row}
 use Rattle.label.proofs.Restarts.{restarts-keep}
 use Rattle.label.proofs.OnAir.{receiver-hears}
-use Rattle.label.proofs.Pace.{Waits, Allows, Paced, paced}
+use Rattle.label.proofs.Pace.{fit, Waits, Allows, Paced, paced}
 
 -- n waits and s µs of air in x µs, which are q strides and r µs more; d is the longest packet, f says where the wait starts
 fits : (f d wait n s x q r : ℕ) → f ≤ 1 → q * (f * d + wait) + r ≡ x → r < f * d + wait → s ≤ n * d → n * wait + f * s ≤ x
@@ -62,11 +62,8 @@ module _ (profile from until : ℕ) where
   early next [] c h = refl
   early next (a ∷ l) c h =
       on-test (λ x. cond x (a .ontime) 0 + airIn from until l ≡ 0) (leb from (a .at) && ltb (a .at) until)
-      (λ e. absurd (omega (arith, is-inside from until (a .at) e .0, c .0, wait)))
+      (λ e. absurd (omega (arith, is-inside from until (a .at) e .0, c .0, fit profile .some)))
       (λ e. omega (arith, early (a .at) l (c .2) (omega (arith, c .0))))
-    where
-      wait : 0 < k .leastwait
-      wait = on-limits (λ l. 0 < l .leastwait) profile (omega arith) (omega arith) (omega arith) (omega arith)
 
   -- so many waits are over by the time of the next, and so much air is in them
   abbrev Over : (next air : ℕ) → Type 0
@@ -98,8 +95,8 @@ module _ (profile from until : ℕ) where
 
 -- by the waits
 module _ (profile from w : ℕ) where
-  abbrev l₀ : Limits
-  l₀ = limitsOf profile
+  abbrev its : Limits
+  its = limitsOf profile
 
   within-waits : (l : List Admission) → Paced profile l → airIn from (from + w) l ≤ byWaits (limitsOf profile) w
   unfolding airIn
@@ -110,17 +107,18 @@ module _ (profile from w : ℕ) where
       (λ e.
       let i = is-inside from (from + w) (a .at) e in
       let o = over profile from (from + w) (a .at) l (s .1) (i .0) in
-      let some = fits (l₀ .fromend) (l₀ .ontime) (l₀ .leastwait) (o .0) (airIn from (from + w) l) (w - 1) ((w - 1) / stride l₀)
-      ((w - 1) % stride l₀) (fromend-le profile) (div-add-mod' (w - 1) (stride l₀)) (mod-lt (w - 1) long) (o .1)
+      let some =
+      fits (its .fromend) (its .ontime) (its .leastwait) (o .0) (airIn from (from + w) l) (w - 1) ((w - 1) / stride its)
+      ((w - 1) % stride its) (fromend-le profile) (div-add-mod' (w - 1) (stride its)) (mod-lt (w - 1) long) (o .1)
       (omega (arith, o .2, i .1)) in
-      omega (arith, some, s .0, suc-mul ((w - 1) / stride l₀) (l₀ .ontime)))
+      omega (arith, some, s .0, suc-mul ((w - 1) / stride its) (its .ontime)))
       (λ e. split (leb (from + w) (a .at))
       (λ f. omega (arith, within-waits l (so-far (Waits profile) (Allows profile) (a .at) l (s .1))))
       (λ f. split (leb from (a .at)) (λ g. clash (cc (inside from (from + w) (a .at) (omega tested) (omega tested))))
       (λ g. omega (arith, early profile from (from + w) (a .at) l (s .1) (omega tested)))))
     where
-      long : 0 < stride l₀
-      long = on-limits (λ l. 0 < stride l) profile (omega arith) (omega arith) (omega arith) (omega arith)
+      long : 0 < stride its
+      long = omega (arith, fit profile .some)
 
 -- runs of one profile
 paced-all : (profile : ℕ) (ss : List Started) → All (λ (s : Started). s .run .making .profile ≡ profile) ss
@@ -130,8 +128,7 @@ paced-all profile ss =
 
 paid : (profile : ℕ) (a : Admission) (next : ℕ) → Allows profile a → a .at + silence ≤ next → Waits profile a next
 paid profile a next h s =
-    let short = on-limits (λ l. stride l ≤ silence) profile (omega arith) (omega arith) (omega arith) (omega arith) in
-    omega (arith, short, mul-le-mul-left (limitsOf profile .fromend) h)
+    omega (arith, fit profile .soon, mul-le-mul-left (limitsOf profile .fromend) h)
 
 module _ (profile : ℕ) (rs : Alike profile) where
   abbrev sent : List Admission
@@ -180,18 +177,54 @@ module _ (profile : ℕ) (rs : Alike profile) where
   unfolding most
   admitted w from =
       on-test (λ x. claimsCeiling profile ≡ x
-      → airIn from (from + w) sent ≤ min (byWaits (limitsOf profile) w) (cond x (min (bySecond w) (byCeiling w)) (bySecond w)))
+      → airIn from (from + w) sent ≤ min (byWaits (limitsOf profile) w) (byClaims x w))
       (claimsCeiling profile)
       (λ e f. omega (arith, by-waits from w, by-second from w, by-ceiling e from w))
       (λ e f. omega (arith, by-waits from w, by-second from w)) refl
 
+-- one run is a row of one
+from-start : (l : List Admission) → map (later 0) l ++ [] ≡ l
+from-start [] = refl
+from-start (a ∷ l) = λ i. record { at = same i; ontime = a .ontime } ∷ from-start l i
+  where
+    same : 0 + a .at ≡ a .at
+    same = omega arith
+
+module _ (profile : ℕ) (r : Run) (e : r .making .profile ≡ profile) where
+  by-itself : Alike profile
+  unfolding sentInAll
+  by-itself =
+      record {
+        runs = record { run = r; made = 0 } ∷ [];
+        restarts = (none-before (map (later 0) (journal r .admissions)), tt);
+        same = (e, tt);
+      }
+    where
+      none-before : (l : List Admission) → Silent l []
+      none-before [] = tt
+      none-before (a ∷ l) = (tt, none-before l)
+
+  its-own : sentInAll (by-itself .runs) ≡ journal r .admissions
+  unfolding by-itself sentInAll
+  its-own = from-start (journal r .admissions)
+
 pub most-holds : MostHolds
 most-holds profile w =
     record {
-      admitted = λ rs. admitted profile rs w;
+      admitted =
+          λ r e from.
+          subst (λ (l : List Admission). airIn from (from + w) l ≤ most profile w) (its-own profile r e)
+          (admitted profile (by-itself profile r e) w from);
       on-air =
-          λ g rs. receiver-hears (rs .runs) (rs .restarts) .as-admitted w (most profile w) g (admitted profile rs w);
+          λ g r e from.
+          subst (λ (l : List Admission). onAir from (from + w) l ≤ most profile w) (its-own profile r e)
+          (heard-of g (by-itself profile r e) from);
+      admitted-in-all = λ rs. admitted profile rs w;
+      on-air-in-all = heard-of;
     }
+  where
+    heard-of : leastGap ≤ w → (rs : Alike profile) (from : ℕ) → onAir from (from + w) (sentInAll (rs .runs)) ≤ most profile w
+    heard-of g rs = receiver-hears (rs .runs) (rs .restarts) .as-admitted w (most profile w) g (admitted profile rs w)
 
 pub most-by-profile : MostByProfile
 unfolding most claimsCeiling within

@@ -7,9 +7,8 @@ use mathlib.Core.Bool.{true, cond, _&&_}
 use mathlib.Core.List.{List, [], _∷_}
 use native.Mathlib.Omega.{arith}
 use lib.Dec.{leb, ltb}
-use Rattle.rules.specs.Profiles.{limitsOf, mostOntime}
+use Rattle.rules.specs.Profiles.{mostOntime}
 use Rattle.rules.proofs.Cases.{split, on-test, clash}
-use Rattle.rules.proofs.Profiles.{on-limits}
 use Rattle.rules.proofs.Tests.{tested}
 use Rattle.control.specs.Owed.{spare, second, leastGap, claimsCeiling}
 use Rattle.model.specs.declared.Admission.{Admission}
@@ -24,6 +23,28 @@ use Rattle.label.proofs.Longest.{longest}
 use Rattle.label.proofs.Windows.{inside, is-inside, wider, one-more}
 use Rattle.label.proofs.Rows.{Chain, SoFar, so-far, row}
 use Rattle.label.proofs.Restarts.{restarts-keep}
+use Rattle.label.proofs.Pace.{fit}
+
+-- a packet ends before the next begins, and is no longer than the least gap
+abbrev Ends : Admission → ℕ → Type 0
+Ends a next = a .at + a .ontime ≤ next
+
+abbrev Short : Admission → Type 0
+Short a = a .ontime ≤ leastGap
+
+-- no more is heard than the time that passes
+before-next : (from until next : ℕ) (l : List Admission) → Chain Ends Short next l → onAir from until l ≤ next - from
+unfolding onAir heard
+before-next from until next [] c = omega arith
+before-next from until next (a ∷ l) c = omega (arith, before-next from until (a .at) l (c .2), c .0)
+
+pub one-at-once : (from w : ℕ) (l : List Admission) → SoFar Ends Short l → onAir from (from + w) l ≤ w
+unfolding onAir heard
+one-at-once from w [] c = omega arith
+one-at-once from w (a ∷ l) c =
+    split (leb (from + w) (a .at))
+    (λ e. omega (tested, one-at-once from w l (so-far Ends Short (a .at) l (c .1))))
+    (λ e. omega (tested, before-next from (from + w) (a .at) l (c .1)))
 
 -- a packet cut in its middle: y µs of it come before a stretch, c before the middle, z behind the stretch
 cut-in-two : (n y c z : ℕ) → y ≤ c → c ≤ n → z ≤ n - c → n - y - z ≡ n - y - (n - c) + (n - c - z)
@@ -58,27 +79,6 @@ unfolding onAir
 adds from middle until [] f u = refl
 adds from middle until (a ∷ l) f u =
     omega (arith, heard-adds from middle until a f u, adds from middle until l f u)
-
--- a packet ends before the next begins, and is no longer than the least gap
-abbrev Ends : Admission → ℕ → Type 0
-Ends a next = a .at + a .ontime ≤ next
-
-abbrev Short : Admission → Type 0
-Short a = a .ontime ≤ leastGap
-
--- no more is heard than the time that passes
-before-next : (from until next : ℕ) (l : List Admission) → Chain Ends Short next l → onAir from until l ≤ next - from
-unfolding onAir heard
-before-next from until next [] c = omega arith
-before-next from until next (a ∷ l) c = omega (arith, before-next from until (a .at) l (c .2), c .0)
-
-pub one-at-once : (from w : ℕ) (l : List Admission) → SoFar Ends Short l → onAir from (from + w) l ≤ w
-unfolding onAir heard
-one-at-once from w [] c = omega arith
-one-at-once from w (a ∷ l) c =
-    split (leb (from + w) (a .at))
-    (λ e. omega (tested, one-at-once from w l (so-far Ends Short (a .at) l (c .1))))
-    (λ e. omega (tested, before-next from (from + w) (a .at) l (c .1)))
 
 -- so far the stretch reaches back
 pub record Back (from : ℕ) (l : List Admission) : Type 0 where
@@ -134,7 +134,8 @@ ceiling-heard l h k from w =
       b .no-further,
       k (from - b .by) (w + b .by),
       one-more (from - b .by) (w + b .by) l,
-      wider (from - b .by) (from + w) (from - b .by) (suc (from - b .by + (w + b .by))) l (omega arith) (omega (arith, b .no-further)),
+      wider (from - b .by) (from + w) (from - b .by) (suc (from - b .by + (w + b .by))) l (omega arith)
+          (omega (arith, b .no-further)),
     )
 
 -- what every stretch of a length admits at most, it is on air at most
@@ -156,8 +157,7 @@ heard-as-admitted l h c w most g k from =
 -- a run's packets end before the next
 longest-le : (profile : ℕ) → mostOntime profile ≤ leastGap
 unfolding mostOntime
-longest-le profile =
-    on-limits (λ l. l .ontime ≤ leastGap) profile (omega arith) (omega arith) (omega arith) (omega arith)
+longest-le profile = fit profile .short
 
 ended : (next : ℕ) (a : Admission) (l : List Admission) → a .at + leastGap ≤ next → Apart (a ∷ l) → All Short (a ∷ l)
     → Chain Ends Short next (a ∷ l)

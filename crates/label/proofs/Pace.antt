@@ -1,20 +1,22 @@
--- A packet is sent only where the gate isn't closed, and no wait is shorter than its profile's shortest. So from each admission to
--- the next there is at least the shortest wait, from where it starts.
-use Prim.Native.Nat.{ℕ, _+_, _*_, _≤_}
+-- A packet is sent only where the gate isn't closed, and no wait is shorter than its profile's shortest. So from each admission
+-- to the next there is at least the shortest wait, from where it starts.
+use Prim.Native.Nat.{ℕ, _+_, _*_, _≤_, _<_}
 use mathlib.Core.Path.{_≡_, refl, ap, sym, subst}
 use mathlib.Core.Bool.{true, false, not}
 use mathlib.Core.List.{List, [], _∷_}
 use native.Mathlib.Omega.{arith}
-use lib.Dec.{eqb}
+use lib.Dec.{leb, ltb, eqb}
 use lib.ListN.{take}
-use borrow.Author.Tests.{not-true}
+use borrow.Author.Tests.{not-true, leb-true, ltb-true}
+use Rattle.rules.specs.declared.Limits.{Limits}
 use Rattle.rules.specs.Profiles.{limitsOf, mostOntime}
 use Rattle.rules.specs.Wait.{startOf}
 use Rattle.rules.specs.Samples.{busyOf, loadOf}
 use Rattle.rules.specs.Refusals.{NoneHolds}
 use Rattle.rules.proofs.Cases.{on-cond, both}
 use Rattle.rules.proofs.Tests.{tested}
-use Rattle.rules.proofs.Profiles.{allowed}
+use Rattle.rules.proofs.Profiles.{allowed, on-limits}
+use Rattle.control.specs.Owed.{leastGap}
 use Rattle.control.proofs.Owed.{within-limits}
 use Rattle.control.proofs.Controls.{control-test, sampled-profile}
 use Rattle.model.specs.declared.Admission.{Admission}
@@ -34,8 +36,24 @@ use Rattle.model.proofs.Sound.{SoundView, test-view, refreshed-sound, chosen-qu
 use Rattle.model.proofs.Invariant.{Tied, refreshed-tied, chosen-lowest}
 use Rattle.model.proofs.Runs.{InRun, run-on, run-begins}
 use Rattle.label.specs.Trailer.{Run, journal}
+use Rattle.label.specs.Restarts.{silence}
+use Rattle.label.specs.Most.{stride}
 use Rattle.label.proofs.Rows.{Chain, SoFar}
 use Rattle.label.proofs.Restarts.{in-run}
+
+-- what holds of each profile's limits
+pub record Fit (l : Limits) : Type 0 where
+  pub some : 0 < l .leastwait
+  pub soon : stride l ≤ silence
+  pub short : l .ontime ≤ leastGap
+
+fit-by : (l : Limits) → ltb 0 (l .leastwait) ≡ true → leb (stride l) silence ≡ true → leb (l .ontime) leastGap ≡ true → Fit l
+fit-by l a b c = record { some = ltb-true _ _ a; soon = leb-true _ _ b; short = leb-true _ _ c }
+
+pub fit : (profile : ℕ) → Fit (limitsOf profile)
+fit profile =
+    on-limits Fit profile (fit-by _ refl refl refl) (fit-by _ refl refl refl) (fit-by _ refl refl refl)
+    (fit-by _ refl refl refl)
 
 module _ (profile : ℕ) where
   abbrev pub Waits : Admission → ℕ → Type 0

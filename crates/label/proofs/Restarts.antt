@@ -52,7 +52,8 @@ ceiling-row ss r c from w =
     window from w (sentInAll ss)
     (spaced (sentInAll ss)
     (row Gap Fits (λ made a next h. omega arith) (λ made a h. h) (λ a next h s. omega arith) ss r
-    (all-more _ _ ss (λ s e. chained (journal (s .run) .admissions) (in-run (s .run) .tied .spaced (rw (in-run (s .run) .same) e))) c)))
+    (all-more _ _ ss
+    (λ s e. chained (journal (s .run) .admissions) (in-run (s .run) .tied .spaced (rw (in-run (s .run) .same) e))) c)))
 
 second-row : (ss : List Started) → Restarts ss → KeepsSecond (sentInAll ss)
 unfolding sentInAll airIn

@@ -2,13 +2,14 @@
 use Prim.Native.Nat.{ℕ, zero, suc, _+_, _*_}
 use mathlib.Core.Path.{_≡_, refl}
 use mathlib.Core.List.{List, [], _∷_, _++_}
+use native.Mathlib.Omega.{arith}
 use Rattle.model.specs.declared.Admission.{Admission}
 use Rattle.model.specs.declared.Offer.{Offer}
 use Rattle.model.specs.Calls.{Call, offer, poll}
 use Rattle.model.specs.Journal.{airTime, airIn}
 use Rattle.model.proofs.Computing.{of-runs}
 use Rattle.label.specs.Trailer.{Run, journal}
-use Rattle.label.specs.Restarts.{Started, sentIn, sentInAll}
+use Rattle.label.specs.Restarts.{Started, sentIn, sentInAll, Restarts, WaitsFirst}
 
 -- a packet offered, and a poll at the same time
 sends : (at ontime : ℕ) → List Call
@@ -37,7 +38,8 @@ above-the-ceiling : 100 * airTime 0 133333 (sentInAll pair) ≡ 3 * 133333 + 400
 unfolding of-runs sends at-once sentInAll
 above-the-ceiling = refl
 
--- seven packets of 26,001 µs in profile 4, as fast as they go, and then a make: 827,998 µs of silence are not enough
+-- seven packets of 26,001 µs in profile 4, as fast as they go, the last at 172,001, and then a make: 827,998 µs of silence are
+-- not enough
 seven : Run
 unfolding of-runs sends
 seven =
@@ -55,7 +57,7 @@ seven =
     }
 
 too-soon : (airIn 0 1000000 (sentIn (record { run = seven; made = 0 })) ≡ 26001)
-    × (airIn 0 1000000 (sentInAll (record { run = at-once; made = 172001 + 827998 } ∷ record { run = seven; made = 0 } ∷ [])) ≡ 30001)
+    × (airIn 0 1000000 (sentInAll (record { run = at-once; made = 999999 } ∷ record { run = seven; made = 0 } ∷ [])) ≡ 30001)
 unfolding of-runs sends at-once seven sentInAll
 too-soon = (refl, refl)
 
@@ -63,3 +65,19 @@ too-soon = (refl, refl)
 by-themselves : airIn 0 1000000 (record { at = 999999; ontime = 30000 } ∷ record { at = 0; ontime = 30000 } ∷ []) ≡ 60000
 unfolding airIn
 by-themselves = refl
+
+-- with a second of silence they may follow one another, and a host that first polls after a second has it
+abbrev in-order : List Started
+in-order = record { run = at-once; made = 1000000 } ∷ record { run = at-once; made = 0 } ∷ []
+
+follows : Restarts in-order
+unfolding of-runs sends at-once sentInAll
+follows = (((omega arith, tt), tt), ((tt, tt), tt))
+
+patient : Run
+unfolding of-runs sends
+patient = record { making = record { profile = 4; oldway = 0; stamp = 0 }; calls = sends 1000000 4000; ready = refl }
+
+waits-first : WaitsFirst (record { run = patient; made = 1000001 } ∷ record { run = patient; made = 1 } ∷ [])
+unfolding of-runs sends patient sentInAll
+waits-first = ((omega arith, tt), (omega arith, tt), (tt, (omega arith, tt), tt))

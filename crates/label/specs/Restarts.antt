@@ -1,5 +1,5 @@
--- The label's figures across restarts: runs of the gate one after the other on one clock (docs/LABEL.md, "After
--- a restart").
+-- The label's figures across restarts: runs of the gate one after the other on one clock (docs/LABEL.md,
+-- "After a restart").
 use Prim.Native.Nat.{ℕ, _+_, _*_, _≤_}
 use mathlib.Core.Path.{_≡_}
 use mathlib.Core.Bool.{true}

@@ -30,7 +30,7 @@ abbrev pub AllBehind : Four Packet → Four Entry → Type 0
 AllBehind offers q = Fours (λ (n : ℕ) (ls : List Entry). Behind (length (column n offers)) ls) q
 
 -- lines taken out
-picked-length : (test : Entry → Bool) (ls : List Entry) → length (picked test ls) ≤ length ls
+pub picked-length : (test : Entry → Bool) (ls : List Entry) → length (picked test ls) ≤ length ls
 unfolding picked
 picked-length test [] = omega arith
 picked-length test (l ∷ ls) =

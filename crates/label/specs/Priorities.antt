@@ -1,0 +1,108 @@
+-- How long a packet of any priority waits: what stands before it, and what comes before it while it waits
+-- (docs/LABEL.md, "Turn").
+use Prim.Native.Nat.{ℕ, zero, suc, _+_, _-_, _*_, _/_, _≤_, _<_}
+use mathlib.Core.Path.{_≡_}
+use mathlib.Core.List.{List, [], _∷_, map}
+use lib.ListN.{length}
+use Rattle.control.specs.Owed.{quiet}
+use Rattle.model.specs.declared.Offer.{Offer}
+use Rattle.model.specs.declared.Answer.{Answer}
+use Rattle.model.specs.declared.Answer.the-variants.{Taken}
+use Rattle.model.specs.Fours.{Four, column}
+use Rattle.model.specs.Calls.{Call, offer}
+use Rattle.model.specs.Gate.{call}
+use Rattle.model.specs.Journal.{Entry, Journal, fed, journalOf}
+use Rattle.model.specs.Claims.{events}
+use Rattle.model.specs.Delivery.{Among, offeredEntry}
+use Rattle.label.specs.Trailer.{Run, viewAtEnd, journal, Served}
+
+-- how many are of a lower number than a priority: those go before it
+abbrev pub below : {A : Type 0} → (priority : ℕ) → Four A → ℕ
+below zero q = 0
+below (suc zero) q = length (q .c0)
+below (suc (suc zero)) q = length (q .c0) + length (q .c1)
+below (suc (suc (suc n))) q = length (q .c0) + length (q .c1) + length (q .c2)
+
+-- a packet that is TAKEN at the end of a run, and calls behind it
+pub record Wait : Type 0 where
+  pub run : Run
+  pub stamp : ℕ
+  pub packet : Offer
+  pub taken : call (viewAtEnd run) (offer stamp packet) .answer ≡ Taken
+  pub during : List Call
+
+-- the calls behind it, with their answers
+abbrev pub callsSince : Wait → List (Call × Answer)
+callsSince w = events (call (viewAtEnd (w .run)) (offer (w .stamp) (w .packet)) .view) (w .during)
+
+-- the book right behind the offer, and at the end
+abbrev pub whenItCame : Wait → Journal
+whenItCame w = fed (journal (w .run)) (offer (w .stamp) (w .packet)) Taken
+
+abbrev pub sinceItCame : Wait → Journal
+sinceItCame w =
+    journalOf (whenItCame w) (callsSince w)
+
+-- its entry
+abbrev pub its : Wait → Entry
+its w = offeredEntry (journal (w .run)) (w .stamp) (w .packet)
+
+-- it waits still
+abbrev pub WaitsStill : Wait → Type 0
+WaitsStill w = Among (its w) (column (w .packet .priority) (sinceItCame w .columns))
+
+-- "before it": of its own queue, and of lower numbers
+abbrev pub before : Wait → ℕ
+before w = its w .above + below (w .packet .priority) (whenItCame w .columns)
+
+-- "of lower number, TAKEN while it waits"
+abbrev pub meanwhile : Wait → ℕ
+meanwhile w =
+    below (w .packet .priority) (sinceItCame w .offers) - below (w .packet .priority) (whenItCame w .offers)
+
+-- the packets that went since it came
+abbrev pub went : Wait → ℕ
+went w = length (sinceItCame w .admissions) - length (whenItCame w .admissions)
+
+-- "while it waits, no more packets go than were before it and of lower number came meanwhile"
+abbrev pub InItsTurn : Type 0
+InItsTurn = (w : Wait) → WaitsStill w → went w ≤ before w + meanwhile w
+
+-- "polled at least every p, and something waiting at each poll"
+abbrev pub ServedSince : (p : ℕ) → Wait → Type 0
+ServedSince p w =
+    Served p (whenItCame w .time) (whenItCame w) (callsSince w)
+
+-- the time for which it has waited
+abbrev pub waited : Wait → ℕ
+waited w = sinceItCame w .time - whenItCame w .time
+
+-- "(before it + meanwhile + 1) x (floor + p)"
+abbrev pub WaitsAtMost : Type 0
+WaitsAtMost =
+    (p : ℕ) (w : Wait) → ServedSince p w → WaitsStill w
+    → waited w ≤ suc (before w + meanwhile w) * (quiet (w .run .making .profile) + p)
+
+-- "of lower numbers at most one comes in any so many µs": one when it came, and one more for each such time
+-- that has passed
+abbrev pub OneEvery : (every : ℕ) → Wait → Type 0
+OneEvery every w = meanwhile w * every ≤ waited w + every
+
+-- "(before it + 2) x (floor + p) x every / (every - (floor + p))": the others take floor + p of every such
+-- time
+abbrev pub amongOthers : (profile p every before : ℕ) → ℕ
+amongOthers profile p every before =
+    (before + 2) * (quiet profile + p) * every / (every - (quiet profile + p))
+
+-- then, where they come less often than packets go, it waits for at most that
+abbrev pub WaitsAmongOthers : Type 0
+WaitsAmongOthers =
+    (p every : ℕ) (w : Wait) → ServedSince p w → WaitsStill w → OneEvery every w
+    → quiet (w .run .making .profile) + p < every
+    → waited w ≤ amongOthers (w .run .making .profile) p every (before w)
+
+-- "a warning every 2.2 s, 5 s or 10 s", polled every 50 ms, none before it: at most so long in profile 1
+abbrev pub AmongWarnings : Type 0
+AmongWarnings =
+    map (λ every. amongOthers 1 50000 every 0) (2200000 ∷ 5000000 ∷ 10000000 ∷ [])
+    ≡ 4024717 ∷ 2661433 ∷ 2348865 ∷ []
