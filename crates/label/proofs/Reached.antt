@@ -1,21 +1,20 @@
 -- Each profile's figures are reached by a steady sender: in profiles 1 and 2 of longest packets, a stride apart, from a fresh
 -- gate on; in profile 4 of eight packets of 3,750 µs a second, which are 30 ms; in profile 3 the same, once 400 samples of an
 -- empty channel have raised the duty to its greatest.
-use Prim.Native.Nat.{ℕ, zero, suc, _+_, _*_, _≤_, _<_}
-use mathlib.Core.Path.{_≡_, refl, ap, sym, _∙_, subst}
+use Prim.Native.Nat.{ℕ, zero, suc, _+_, _*_, _≤_}
+use mathlib.Core.Path.{_≡_, refl, ap, _∙_}
 use mathlib.Core.Bool.{true}
 use mathlib.Core.List.{List, [], _∷_, _++_}
 use native.Mathlib.Omega.{arith}
 use lib.Dec.{leb, ltb}
 use borrow.Author.Tests.{leb-true, ltb-true}
-use Rattle.rules.specs.Profiles.{mostOffers, within, mostOntime, ontimeAllowed}
+use Rattle.rules.specs.Profiles.{mostOffers, within, ontimeAllowed}
 use Rattle.rules.specs.Clock.{endOfTime}
 use Rattle.rules.proofs.Profiles.{allowed}
 use Rattle.rules.proofs.Tests.{tested}
 use Rattle.control.specs.Control.{Control, freshControl}
 use Rattle.control.specs.Wait.{closedAfter}
 use Rattle.control.specs.Owed.{second, claimsCeiling}
-use Rattle.model.specs.declared.Admission.{Admission}
 use Rattle.model.specs.declared.Answer.the-variants.{Ready}
 use Rattle.model.specs.Calls.{Call, count, Making}
 use Rattle.model.specs.Ledger.{mostAir}

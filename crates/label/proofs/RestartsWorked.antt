@@ -3,12 +3,10 @@ use Prim.Native.Nat.{ℕ, zero, suc, _+_, _*_}
 use mathlib.Core.Path.{_≡_, refl}
 use mathlib.Core.List.{List, [], _∷_, _++_}
 use native.Mathlib.Omega.{arith}
-use Rattle.model.specs.declared.Admission.{Admission}
-use Rattle.model.specs.declared.Offer.{Offer}
 use Rattle.model.specs.Calls.{Call, offer, poll}
 use Rattle.model.specs.Journal.{airTime, airIn}
 use Rattle.model.proofs.Computing.{of-runs}
-use Rattle.label.specs.Trailer.{Run, journal}
+use Rattle.label.specs.Trailer.{Run}
 use Rattle.label.specs.Restarts.{Started, sentIn, sentInAll, Restarts, WaitsFirst}
 
 -- a packet offered, and a poll at the same time
