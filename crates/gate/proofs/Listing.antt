@@ -1,12 +1,12 @@
 -- What a plan is told of profile 5's list and loads comes to the model's: in profile 5 the loads are noted and the level is that of
 -- the loads as noted; in every other nothing is noted, and neither the level told nor the wait listed is looked at.
-use Prim.Native.Nat.{ℕ, _+_}
-use mathlib.Core.Path.{_≡_, refl, ap, _∙_}
+use Prim.Native.Nat.{ℕ, _+_, _<_}
+use mathlib.Core.Path.{_≡_, refl, ap, ap₂, _∙_}
 use mathlib.Core.Bool.{true, false, cond}
 use mathlib.Core.List.{List}
 use native.Mathlib.Omega.{arith}
 use lib.Dec.{eqb}
-use borrow.Author.Tests.{eqb-false}
+use borrow.Author.Tests.{eqb-true, eqb-false}
 use Rattle.rules.specs.Profiles.{isProfile, byProfile}
 use Rattle.rules.specs.Samples.{loadOf}
 use Rattle.rules.specs.Wait.{startOf}
@@ -83,3 +83,30 @@ unfolding loadsOn loadsNoted notedIf
 loads-refused s number (Count busy probes) z = rw z
 loads-refused s number (Offered o) z = refl
 loads-refused s number Poll z = refl
+
+-- only a sample that nothing refuses is noted
+pub noted-some : (number profile : ℕ) (r : Request) → 0 < loadsNoted number profile r → number ≡ 0
+unfolding loadsNoted
+noted-some number profile (Count busy probes) h =
+    split (eqb number 0) (λ e. eqb-true number 0 e) (λ e. absurd (omega (arith, rw e at h)))
+noted-some number profile (Offered o) h = absurd (omega arith)
+noted-some number profile Poll h = absurd (omega arith)
+
+-- what is noted where it isn't does not matter
+noted-alike : (more load : ℕ) (l : Loads) → notedIf more (cond (eqb more 0) 0 load) l ≡ notedIf more load l
+unfolding notedIf
+noted-alike more load l = split (eqb more 0) (λ e. rw e) (λ e. rw e)
+
+-- the loads that a call leaves, and the level that they move to, from what its functions give
+module _ (s : State) (number : ℕ) (r : Request) (more load : ℕ) (held : Loads) (em : more ≡ loadsNoted number (s .profile) r)
+    (el : load ≡ cond (eqb more 0) 0 (loadIn r)) (eh : held ≡ notedIf more load (s .loads)) where
+  pub loads-as : held ≡ loadsOn s number r
+  unfolding loadsOn
+  loads-as =
+      eh ∙ ap (λ (x : ℕ). notedIf more x (s .loads)) el ∙ noted-alike more (loadIn r) (s .loads)
+      ∙ ap (λ (m : ℕ). notedIf m (loadIn r) (s .loads)) em
+
+  pub moved-as : cond (eqb more 0) 0 (levelAfter (thresholds (s .levels)) (loads held) (s .tuning .level)) ≡ movedOn s number r
+  unfolding movedOn
+  moved-as =
+      ap₂ (λ (m : ℕ) (x : Loads). cond (eqb m 0) 0 (levelAfter (thresholds (s .levels)) (loads x) (s .tuning .level))) em loads-as
