@@ -31,7 +31,7 @@ pub packed-length : (l : Line) → Packed l → l .len ≡ length (items l)
 unfolding packed
 packed-length l h = ap (λ (x : Line). x .len) h
 
-same-line : (l r : Line) → l .len ≡ r .len → l .packets ≡ r .packets → l ≡ r
+pub same-line : (l r : Line) → l .len ≡ r .len → l .packets ≡ r .packets → l ≡ r
 same-line l r e f = λ i. record { len = e i; packets = f i }
 
 -- a number of places that the list has taken

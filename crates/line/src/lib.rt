@@ -6,7 +6,7 @@ ghost use Prim.Native.Nat.{_≤_};
 ghost use lib.Dec.{leb};
 ghost use lib.ListN.{length, drop};
 ghost use Rattle.packing.specs.Packing.{allAre};
-ghost use Rattle.model.specs.Packets.{unexpired, withoutExpired, inOrder};
+ghost use Rattle.model.specs.Packets.{withoutExpired, inOrder};
 ghost use Rattle.queue.specs.Layout.{isZero};
 ghost use Rattle.line.specs.Line.{countOf, goesBefore, goesNext, without, allowedPacket};
 ghost use Rattle.line.specs.Layout.{places, items, packed, Packed, pushed, soundLine};
@@ -70,28 +70,23 @@ pub fn count_of(l: Line, priority: u32) -> usize
     count
 }
 
-// The line with one more packet, unless that one is expired.
-fn keep(left: Line, p: Packet, now: u64) -> Line
-    ensures { λ r. ⌜ r ≡ cond (unexpired now p) (pushed p left) left ⌝ }
-{
-    if queue::is_unexpired(p, now) {
-        return push(left, p);
-    }
-    left
-}
-
 // The line without its expired packets.
 pub fn expire(l: Line, now: u64) -> Line
     ensures { λ r. ⌜ r ≡ packed (withoutExpired now (items l)) ⌝ }
 {
     let n = held(l);
     let mut left = empty();
+    let mut kept: usize = 0;
     let mut i: usize = 0;
     while i < n {
         let p = l.packets[i];
-        left = keep(left, p, now);
+        if queue::is_unexpired(p, now) {
+            left.packets[kept] = p;
+            kept += 1;
+        }
         i += 1;
     }
+    left.len = kept;
     left
 }
 

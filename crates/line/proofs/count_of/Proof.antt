@@ -49,15 +49,16 @@ loop-again c =
     let ps = s .before .args .t1 .packets in
     let n = s .held .result in
     let i = a .loop .i in
+    let k = s .before .args .priority in
     ⊎-elim
     (λ w. (
       omega arith,
-      rw (w .1) (counted-yes ps n i (long s) (s .before .args .priority) (a .loop .count) (omega arith) (w .0 .taken) ∙ a .loop .inv .1),
+      rw (w .1) (counted-yes ps n i (long s) k (a .loop .count) (omega arith) (w .0 .taken) ∙ a .loop .inv .1),
       omega (arith, a .loop .inv .2),
     ))
     (λ w. (
       omega arith,
-      rw (w .1) (counted-no ps n i (long s) (s .before .args .priority) (a .loop .count) (omega arith) (w .0 .left) ∙ a .loop .inv .1),
+      rw (w .1) (counted-no ps n i (long s) k (a .loop .count) (omega arith) (w .0 .left) ∙ a .loop .inv .1),
       omega (arith, a .loop .inv .2),
     ))
     (c .if1 .came)
