@@ -94,6 +94,12 @@ enum presscurlew_refusal {
  *   - It keeps the state of the last call and hands it back unchanged. It may store it, copy it and move it
  *     to another thread, but it uses each state for one call: two calls on copies of one state are two
  *     gates, and each admits for itself.
+ *   - After presscurlew_make it waits: the first poll comes 1,000,000 us or more after the make (samples and offers may
+ *     come before). A fresh state knows nothing of what was sent before it, so without this second a host that restarts
+ *     may send more than the figures above allow; with it they hold across any number of restarts, whatever the
+ *     profiles (proved: crates/label, restarts-keep and waiting-restarts). Only a host that goes on with its stored
+ *     state, the very one that its last call handed back, on a clock that has run on for less than 35 minutes, makes
+ *     nothing and need not wait.
  *   - It sends a packet when, and only when, a poll answers SENT, and each one once.
  *   - It reads stamps from one clock, and calls often enough that the clock moves by less than 2^31 us
  *     (some 35 minutes) from one call to the next; a longer step looks like a clock that went back. A step of

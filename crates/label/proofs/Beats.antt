@@ -2,16 +2,15 @@
 -- many packets as come in a second fit into one. So it is from the first on, call by call.
 use Prim.Native.Nat.{ℕ, zero, suc, _+_, _-_, _*_, _≤_, _<_}
 use mathlib.Core.Path.{_≡_, refl, ap, sym, _∙_, subst}
-use mathlib.Core.Bool.{true, false, not, cond, _&&_}
+use mathlib.Core.Bool.{true, false, not, cond}
 use mathlib.Core.List.{List, [], _∷_, _++_}
 use native.Mathlib.Nat.{suc-mul, add-mul, mul-le-mul-right}
 use native.Mathlib.Omega.{arith}
-use lib.Dec.{leb, ltb, eqb}
-use lib.ListN.{length, drop}
-use borrow.Author.Tests.{le-leb}
-use Rattle.rules.specs.Profiles.{ontimeAllowed, lifetimeAllowed, mostOffers, within}
+use lib.Dec.{leb, ltb}
+use lib.ListN.{drop}
+use Rattle.rules.specs.Profiles.{ontimeAllowed, mostOffers, within}
 use Rattle.rules.specs.Clock.{stepOf, goesBack, passesEnd, endOfTime}
-use Rattle.rules.specs.Refusals.{firstOf, NoneHolds}
+use Rattle.rules.specs.Refusals.{NoneHolds}
 use Rattle.rules.proofs.Cases.{split, on-test, on-cond}
 use Rattle.rules.proofs.Refusals.{none-of}
 use Rattle.rules.proofs.Tests.{tested}
@@ -21,7 +20,6 @@ use Rattle.control.specs.Owed.{second}
 use Rattle.model.specs.declared.Packet.{Packet}
 use Rattle.model.specs.declared.Offer.{Offer}
 use Rattle.model.specs.declared.Admission.{Admission}
-use Rattle.model.specs.declared.Answer.{Answer}
 use Rattle.model.specs.declared.Answer.the-variants.{Taken, Sent}
 use Rattle.model.specs.declared.Counts.{Counts}
 use Rattle.model.specs.Fours.{Four, four, noneOfFour, column, change, howMany}
@@ -29,10 +27,10 @@ use Rattle.model.specs.Packets.{Chosen, nothing, chosen}
 use Rattle.model.specs.Queues.{inQueues, choice}
 use Rattle.model.specs.Calls.{Call, offer, poll, Making}
 use Rattle.model.specs.Ledger.{mostAir, airOf, airAllows}
-use Rattle.model.specs.State.{View, sound}
+use Rattle.model.specs.State.{View}
 use Rattle.model.specs.Effects.{Result, refreshed, isFull, closed, maySend, polled, effect}
 use Rattle.model.specs.Gate.{checks, call}
-use Rattle.model.specs.Journal.{Journal, Departure, Entry, turned, picked, outlived, lowest, top, sentOf, atPoll}
+use Rattle.model.specs.Journal.{Journal, Entry, turned, picked, outlived, lowest, top, sentOf, atPoll}
 use Rattle.model.specs.Journal.{fed, journalOf, airIn, lastSecond}
 use Rattle.model.specs.Claims.{viewAfter, events, Newest}
 use Rattle.model.specs.Delivery.{offeredEntry}

@@ -14,18 +14,20 @@ use Rattle.rules.proofs.Cases.{split, on-test, clash}
 use Rattle.rules.proofs.Ceiling.{ceil-reaches}
 use Rattle.rules.proofs.Profiles.{fromend-le}
 use Rattle.rules.proofs.Tests.{tested}
-use Rattle.control.specs.Owed.{spare, second, leastGap, claimsCeiling}
+use Rattle.control.specs.Owed.{second, leastGap, claimsCeiling}
 use Rattle.model.specs.declared.Admission.{Admission}
-use Rattle.model.specs.Journal.{airTime, airIn}
-use Rattle.model.specs.Claims.{All, mostInSecond}
+use Rattle.model.specs.Journal.{airIn}
+use Rattle.model.specs.Claims.{All}
 use Rattle.model.proofs.DeliveryLines.{all-more}
 use Rattle.label.specs.Trailer.{Run, journal}
+use Rattle.label.specs.Site.{sum}
 use Rattle.label.specs.Restarts.{Started, later, sentInAll, silence, Silent}
 use Rattle.label.specs.OnAir.{onAir}
-use Rattle.label.specs.Most.{stride, byWaits, bySecond, byCeiling, byClaims, most, Alike, AtMost, MostHolds, MostByProfile}
-use Rattle.label.proofs.Second.{adds, none}
+use Rattle.label.specs.Most.{stride, byWaits, bySecond, byCeiling, byClaims, most, Alike}
+use Rattle.label.specs.Most.{MostHolds, TogetherOnAir, MostByProfile}
+use Rattle.label.proofs.Second.{seconds}
 use Rattle.label.proofs.Windows.{inside, is-inside, wider, one-more}
-use Rattle.label.proofs.Rows.{Chain, SoFar, so-far, row}
+use Rattle.label.proofs.Rows.{Chain, so-far, row}
 use Rattle.label.proofs.Restarts.{restarts-keep}
 use Rattle.label.proofs.OnAir.{receiver-hears}
 use Rattle.label.proofs.Pace.{fit, Waits, Allows, Paced, paced}
@@ -140,24 +142,11 @@ module _ (profile : ℕ) (rs : Alike profile) where
       (row (Waits profile) (Allows profile) (λ made a next h. omega arith) (λ made a h. h) (paid profile) (rs .runs)
       (rs .restarts) (paced-all profile (rs .runs) (rs .same)))
 
-  in-seconds : (n from : ℕ) → airIn from (from + n * second) sent ≤ n * mostInSecond
-  in-seconds zero from = omega (arith, none from (from + 0) sent (omega arith))
-  in-seconds (suc n) from =
-      let next = from + second in
-      let e : from + suc n * second ≡ next + n * second = omega arith in
-      rw e
-      (omega (
-        arith,
-        restarts-keep (rs .runs) (rs .restarts) .in-any-second from,
-        in-seconds n next,
-        adds from next (next + n * second) sent (omega arith) (omega arith),
-      ))
-
   by-second : (from w : ℕ) → airIn from (from + w) sent ≤ bySecond w
   by-second from w =
       omega (
         arith,
-        in-seconds (ceilDiv w second) from,
+        seconds sent (restarts-keep (rs .runs) (rs .restarts) .in-any-second) (ceilDiv w second) from,
         wider from (from + w) from (from + ceilDiv w second * second) sent (omega arith)
             (omega (arith, ceil-reaches w second (omega arith))),
       )
@@ -226,11 +215,16 @@ most-holds profile w =
     heard-of : leastGap ≤ w → (rs : Alike profile) (from : ℕ) → onAir from (from + w) (sentInAll (rs .runs)) ≤ most profile w
     heard-of g rs = receiver-hears (rs .runs) (rs .restarts) .as-admitted w (most profile w) g (admitted profile rs w)
 
+pub together-on-air : TogetherOnAir
+unfolding sum
+together-on-air w g [] = omega arith
+together-on-air w g (t ∷ ts) =
+    omega (
+      arith,
+      together-on-air w g ts,
+      most-holds (t .0 .making .profile) w .on-air g (t .0) refl (t .1),
+    )
+
 pub most-by-profile : MostByProfile
 unfolding most claimsCeiling within
-most-by-profile = (
-  record { in-a-second = refl; in-a-minute = refl; in-an-hour = refl },
-  record { in-a-second = refl; in-a-minute = refl; in-an-hour = refl },
-  record { in-a-second = refl; in-a-minute = refl; in-an-hour = refl },
-  record { in-a-second = refl; in-a-minute = refl; in-an-hour = refl },
-)
+most-by-profile = (refl, refl, refl, refl, refl)

@@ -1,7 +1,7 @@
 -- What is heard of a packet, and the most by the waits, on small numbers: each side computes to the other.
 use Prim.Native.Nat.{ℕ}
 use mathlib.Core.Path.{_≡_, refl}
-use mathlib.Core.List.{List, [], _∷_, map}
+use mathlib.Core.List.{[], _∷_, map}
 use Rattle.rules.specs.declared.Limits.{Limits}
 use Rattle.rules.specs.Profiles.{within}
 use Rattle.control.specs.Owed.{claimsCeiling}

@@ -1,26 +1,26 @@
 -- A packet that is on air as a stretch begins is cut there, by d µs say; so the stretch that starts d earlier has it whole, and d
 -- more than is heard. Of the ceiling those d cost 3 d and save 100 d. Of the second, the last d µs of the stretch are left out
 -- again, and in them no more than d is heard, as packets don't overlap.
-use Prim.Native.Nat.{ℕ, zero, suc, _+_, _-_, _*_, _≤_, _<_}
+use Prim.Native.Nat.{ℕ, zero, suc, _+_, _-_, _*_, _≤_}
 use mathlib.Core.Path.{_≡_, refl}
-use mathlib.Core.Bool.{true, cond, _&&_}
+use mathlib.Core.Bool.{cond, _&&_}
 use mathlib.Core.List.{List, [], _∷_}
 use native.Mathlib.Omega.{arith}
 use lib.Dec.{leb, ltb}
 use Rattle.rules.specs.Profiles.{mostOntime}
 use Rattle.rules.proofs.Cases.{split, on-test, clash}
 use Rattle.rules.proofs.Tests.{tested}
-use Rattle.control.specs.Owed.{spare, second, leastGap, claimsCeiling}
+use Rattle.control.specs.Owed.{spare, second, leastGap}
 use Rattle.model.specs.declared.Admission.{Admission}
-use Rattle.model.specs.Journal.{airTime, airIn}
+use Rattle.model.specs.Journal.{airIn}
 use Rattle.model.specs.Claims.{All, Apart, mostInSecond}
 use Rattle.model.proofs.Demand3.{demand3}
 use Rattle.model.proofs.DeliveryLines.{all-more}
 use Rattle.label.specs.Trailer.{Run, journal}
-use Rattle.label.specs.Restarts.{Started, sentInAll, Restarts, KeepsSecond, KeepsTheCeiling}
+use Rattle.label.specs.Restarts.{Started, sentInAll, Restarts, KeepsTheCeiling}
 use Rattle.label.specs.OnAir.{heard, onAir, ReceiverHears}
 use Rattle.label.proofs.Longest.{longest}
-use Rattle.label.proofs.Windows.{inside, is-inside, wider, one-more}
+use Rattle.label.proofs.Windows.{inside, wider, one-more}
 use Rattle.label.proofs.Rows.{Chain, SoFar, so-far, row}
 use Rattle.label.proofs.Restarts.{restarts-keep}
 use Rattle.label.proofs.Pace.{fit}

@@ -4,8 +4,7 @@ use Prim.Native.Nat.{ℕ, _+_, _*_, _≤_, _<_}
 use mathlib.Core.Path.{_≡_, refl, ap, sym, subst}
 use mathlib.Core.Bool.{true, false, not}
 use mathlib.Core.List.{List, [], _∷_}
-use native.Mathlib.Omega.{arith}
-use lib.Dec.{leb, ltb, eqb}
+use lib.Dec.{leb, ltb}
 use lib.ListN.{take}
 use borrow.Author.Tests.{not-true, leb-true, ltb-true}
 use Rattle.rules.specs.declared.Limits.{Limits}
@@ -53,7 +52,7 @@ fit-by l a b c = record { some = ltb-true _ _ a; soon = leb-true _ _ b; short = 
 pub fit : (profile : ℕ) → Fit (limitsOf profile)
 fit profile =
     on-limits Fit profile (fit-by _ refl refl refl) (fit-by _ refl refl refl) (fit-by _ refl refl refl)
-    (fit-by _ refl refl refl)
+    (fit-by _ refl refl refl) (fit-by _ refl refl refl)
 
 module _ (profile : ℕ) where
   abbrev pub Waits : Admission → ℕ → Type 0

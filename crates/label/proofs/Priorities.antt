@@ -2,7 +2,7 @@
 -- away. Only an offer of a lower number adds one, as an offer of its own priority comes behind it; so admissions and place
 -- together grow by no more than such offers.
 use Prim.Native.Nat.{ℕ, zero, suc, _+_, _-_, _*_, _≤_, _<_}
-use mathlib.Core.Path.{_≡_, refl, ap, sym, _∙_, subst}
+use mathlib.Core.Path.{_≡_, refl, ap, sym, subst}
 use mathlib.Core.Bool.{Bool, not}
 use mathlib.Core.List.{List, [], _∷_, _++_}
 use mathlib.Core.Logic.{inl, inr}
@@ -15,7 +15,6 @@ use Rattle.rules.specs.Wait.{startOf}
 use Rattle.control.specs.Owed.{quiet}
 use Rattle.model.specs.declared.Packet.{Packet}
 use Rattle.model.specs.declared.Answer.{Answer}
-use Rattle.model.specs.declared.Answer.the-variants.{Taken}
 use Rattle.model.specs.Fours.{Four, four, each, column, change}
 use Rattle.model.specs.Calls.{Call, words, count, offer, poll, isSent, isRefused}
 use Rattle.model.specs.State.{View}

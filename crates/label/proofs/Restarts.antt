@@ -14,7 +14,7 @@ use Rattle.model.proofs.Window.{Spaced, SpacedSoFar, window}
 use Rattle.model.proofs.Runs.{InRun, run-on, run-begins}
 use Rattle.model.proofs.DeliveryLines.{all-more}
 use Rattle.label.specs.Trailer.{Run, viewAtEnd, journal}
-use Rattle.label.specs.Restarts.{Started, later, sentIn, sentInAll, silence, Silent, Restarts, WaitsFirst, KeepsSecond}
+use Rattle.label.specs.Restarts.{Started, later, sentIn, sentInAll, silence, Silent, Restarts, KeepsSecond}
 use Rattle.label.specs.Restarts.{KeepsTheCeiling, RestartsKeep, WaitingRestarts}
 use Rattle.label.proofs.Second.{second-of}
 use Rattle.label.proofs.Windows.{moved, one-of-two}

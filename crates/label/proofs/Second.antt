@@ -3,7 +3,6 @@ use Prim.Native.Nat.{ℕ, zero, suc, _+_, _*_, _≤_}
 use mathlib.Core.Path.{_≡_, refl}
 use mathlib.Core.Bool.{cond, _&&_}
 use mathlib.Core.List.{List, [], _∷_}
-use native.Mathlib.Nat.{suc-mul}
 use native.Mathlib.Omega.{arith}
 use lib.Dec.{leb, ltb}
 use Rattle.rules.proofs.Cases.{on-test}
@@ -35,13 +34,13 @@ one-by-one from middle until a f u =
     o = a .ontime
 
 -- one stretch and the next
-pub adds : (from middle until : ℕ) (l : List Admission) → from ≤ middle → middle ≤ until
+adds : (from middle until : ℕ) (l : List Admission) → from ≤ middle → middle ≤ until
     → airIn from until l ≡ airIn from middle l + airIn middle until l
 unfolding airIn
 adds from middle until [] f u = refl
 adds from middle until (a ∷ l) f u = omega (arith, one-by-one from middle until a f u, adds from middle until l f u)
 
-pub none : (from until : ℕ) (l : List Admission) → until ≤ from → airIn from until l ≡ 0
+none : (from until : ℕ) (l : List Admission) → until ≤ from → airIn from until l ≡ 0
 unfolding airIn
 none from until [] h = refl
 none from until (a ∷ l) h =
@@ -50,28 +49,33 @@ none from until (a ∷ l) h =
     (λ g. omega (arith, none from until l h)))
     (λ e. omega (arith, none from until l h))
 
--- one second, of a run
-pub second-of : (r : Run) (from : ℕ) → airIn from (from + 1000000) (journal r .admissions) ≤ 30000
-second-of r from = demand3 (r .making) (r .calls) (r .ready) .in-any-second from
-
-in-seconds : (r : Run) (n from : ℕ) → airIn from (from + n * 1000000) (journal r .admissions) ≤ n * 30000
-in-seconds r zero from = omega (arith, none from (from + 0) (journal r .admissions) (omega arith))
-in-seconds r (suc n) from =
+-- n seconds of a list that has no more than 30 ms in any
+pub seconds : (l : List Admission) → ((from : ℕ) → airIn from (from + 1000000) l ≤ 30000)
+    → (n from : ℕ) → airIn from (from + n * 1000000) l ≤ n * 30000
+seconds l h zero from = omega (arith, none from (from + 0) l (omega arith))
+seconds l h (suc n) from =
     let next = from + 1000000 in
     let e : from + suc n * 1000000 ≡ next + n * 1000000 = omega arith in
     rw e
     (omega (
       arith,
-      second-of r from,
-      in-seconds r n next,
-      adds from next (next + n * 1000000) (journal r .admissions) (omega arith) (omega arith),
+      h from,
+      seconds l h n next,
+      adds from next (next + n * 1000000) l (omega arith) (omega arith),
     ))
+
+-- of a run
+pub second-of : (r : Run) (from : ℕ) → airIn from (from + 1000000) (journal r .admissions) ≤ 30000
+second-of r from = demand3 (r .making) (r .calls) (r .ready) .in-any-second from
+
+in-seconds : (r : Run) (n from : ℕ) → airIn from (from + n * 1000000) (journal r .admissions) ≤ n * 30000
+in-seconds r = seconds (journal r .admissions) (second-of r)
 
 pub second : Second
 second =
     record {
-      in-a-second = second-of;
-      in-a-minute = λ r from. in-seconds r 60 from;
-      in-an-hour = λ r from. in-seconds r 3600 from;
+      in-a-second = λ r from. omega (arith, second-of r from);
+      in-a-minute = λ r from. omega (arith, in-seconds r 60 from);
+      in-an-hour = λ r from. omega (arith, in-seconds r 3600 from);
       in-seconds = λ n r from. in-seconds r n from;
     }

@@ -1,7 +1,7 @@
 -- Air time admitted in a stretch: of two lists joined it adds up, of admissions moved along the clock it is that of the stretch
 -- moved back, and an admission counts in every stretch that takes it in.
 use Prim.Native.Nat.{ℕ, suc, _+_, _-_, _≤_, _<_}
-use mathlib.Core.Path.{_≡_, refl, ap, sym}
+use mathlib.Core.Path.{_≡_, refl}
 use mathlib.Core.Bool.{Bool, true, false, cond, _&&_}
 use mathlib.Core.List.{List, [], _∷_, _++_, map}
 use mathlib.Core.Logic.{inl, inr}

@@ -3,7 +3,7 @@
 use Prim.Native.Nat.{ℕ, suc, _+_, _-_, _*_, _/_, _%_, _≤_, min}
 use mathlib.Core.Path.{_≡_}
 use mathlib.Core.Bool.{Bool, cond}
-use mathlib.Core.List.{List, []}
+use mathlib.Core.List.{List, [], _∷_, map}
 use Rattle.rules.specs.declared.Limits.{Limits}
 use Rattle.rules.specs.Profiles.{limitsOf}
 use Rattle.rules.specs.Wait.{ceilDiv}
@@ -11,6 +11,7 @@ use Rattle.control.specs.Owed.{spare, second, leastGap, claimsCeiling}
 use Rattle.model.specs.Journal.{airIn}
 use Rattle.model.specs.Claims.{All, mostInSecond}
 use Rattle.label.specs.Trailer.{Run, journal}
+use Rattle.label.specs.Site.{sum}
 use Rattle.label.specs.Restarts.{Started, sentInAll, Restarts}
 use Rattle.label.specs.OnAir.{onAir}
 
@@ -62,20 +63,29 @@ pub record AtMost (profile w : ℕ) : Type 0 where
 abbrev pub MostHolds : Type 0
 MostHolds = (profile w : ℕ) → AtMost profile w
 
--- a profile's figures: in any second, minute and hour
-pub record MostIs (profile inSecond inMinute inHour : ℕ) : Type 0 where
-  pub in-a-second : most profile 1000000 ≡ inSecond
-  pub in-a-minute : most profile 60000000 ≡ inMinute
-  pub in-an-hour : most profile 3600000000 ≡ inHour
+-- "n trailers together": each one's most, added up. Each one's stretch starts at a time of its own clock
+abbrev pub TogetherOnAir : Type 0
+TogetherOnAir =
+    (w : ℕ) → leastGap ≤ w → (ts : List (Run × ℕ))
+    → sum (λ (t : Run × ℕ). onAir (t .1) (t .1 + w) (journal (t .0) .admissions)) ts
+    ≤ sum (λ (t : Run × ℕ). most (t .0 .making .profile) w) ts
 
--- "10 ms", "0.595 s", "35.644 s" in profile 1; "10 ms", "0.5945 s", "35.644 s" in profile 2; in profiles 3
--- and 4 the 30 ms of each second are the least
+-- the heads of the label's table: "in any 0.1 s", "0.5 s", "1 s", "1.5 s", "10 s", "minute", "hour"
+abbrev pub stretches : List ℕ
+stretches = 100000 ∷ 500000 ∷ 1000000 ∷ 1500000 ∷ 10000000 ∷ 60000000 ∷ 3600000000 ∷ []
+
+-- a profile's figures for them
+abbrev pub MostIs : (profile : ℕ) → (figures : List ℕ) → Type 0
+MostIs profile figures = map (most profile) stretches ≡ figures
+
+-- in profiles 3 and 4 the 30 ms of each second are the least of a second, a minute and an hour
 abbrev pub MostByProfile : Type 0
 MostByProfile =
-    MostIs 1 10000 595000 35644000
-    × MostIs 2 10000 594500 35644000
-    × MostIs 3 30000 1800000 108000000
-    × MostIs 4 30000 1800000 108000000
+    MostIs 1 (1000 ∷ 5000 ∷ 10000 ∷ 15000 ∷ 100000 ∷ 595000 ∷ 35644000 ∷ [])
+    × MostIs 2 (1000 ∷ 5000 ∷ 10000 ∷ 15000 ∷ 99500 ∷ 594500 ∷ 35644000 ∷ [])
+    × MostIs 3 (6999 ∷ 18999 ∷ 30000 ∷ 48999 ∷ 300000 ∷ 1800000 ∷ 108000000 ∷ [])
+    × MostIs 4 (16000 ∷ 30000 ∷ 30000 ∷ 60000 ∷ 300000 ∷ 1800000 ∷ 108000000 ∷ [])
+    × MostIs 5 (3000 ∷ 13000 ∷ 25000 ∷ 37000 ∷ 244000 ∷ 1464000 ∷ 87805000 ∷ [])
 
 -- a run of a profile that reaches the most in its first w µs, admitted and on air
 pub record Reached (profile w : ℕ) : Type 0 where
@@ -90,4 +100,4 @@ ReachedBy profile = Reached profile 1000000 × Reached profile 60000000 × Reach
 
 -- so no figure could be less
 abbrev pub MostReached : Type 0
-MostReached = ReachedBy 1 × ReachedBy 2 × ReachedBy 3 × ReachedBy 4
+MostReached = ReachedBy 1 × ReachedBy 2 × ReachedBy 3 × ReachedBy 4 × ReachedBy 5

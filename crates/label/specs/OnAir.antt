@@ -1,5 +1,5 @@
--- What a receiver hears: each packet from its admission on for its on-time (docs/LABEL.md, "What a receiver
--- hears").
+-- What a receiver hears: each packet from its admission on for its on-time (docs/LABEL.md, "Admitted, and on
+-- air").
 use Prim.Native.Nat.{ℕ, _+_, _-_, _*_, _≤_}
 use mathlib.Core.Path.{_≡_}
 use mathlib.Core.Bool.{true}

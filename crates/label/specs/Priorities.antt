@@ -1,5 +1,5 @@
 -- How long a packet of any priority waits: what stands before it, and what comes before it while it waits
--- (docs/LABEL.md, "Turn").
+-- (docs/LABEL.md, "How long may a status message wait?").
 use Prim.Native.Nat.{ℕ, zero, suc, _+_, _-_, _*_, _/_, _≤_, _<_}
 use mathlib.Core.Path.{_≡_}
 use mathlib.Core.List.{List, [], _∷_, map}

@@ -28,7 +28,7 @@ unfoldable pub sentInAll : List Started → List Admission
 sentInAll [] = []
 sentInAll (s ∷ ss) = sentIn s ++ sentInAll ss
 
--- "stay silent for a second", in µs
+-- "It waits a second.", in µs
 abbrev pub silence : ℕ
 silence = 1000000
 
@@ -41,8 +41,8 @@ abbrev pub Restarts : List Started → Type 0
 Restarts [] = Unit {0}
 Restarts (s ∷ ss) = Silent (sentIn s) (sentInAll ss) × Restarts ss
 
--- "no poll in the first second after a make": what a host does that knows nothing of the runs before but that
--- they are over
+-- "poll for the first time 1,000,000 µs after the make, or later": what a host does that knows nothing of the
+-- runs before but that they are over
 abbrev pub WaitsFirst : List Started → Type 0
 WaitsFirst [] = Unit {0}
 WaitsFirst (s ∷ ss) =
