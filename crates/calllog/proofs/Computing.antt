@@ -16,12 +16,9 @@ unfoldable pub of-states : Type 0
 unfolding of-runs filled allAre padded packed ledger.pairs ledger.packed ledger.tidy soundState callOn makeState
 of-states = Unit {0}
 
-unfoldable of-records : Type 0
-unfolding stepOn askedBy probesIn profileIn recordAt twoAt fourAt
-of-records = Unit {0}
-
 unfoldable pub of-logs : Type 0
-unfolding of-records outputFrom reachedFrom linesFrom lineOf lastLine decimal digitsIn
+unfolding outputFrom reachedFrom linesFrom lineOf lastLine decimal digitsIn stepOn askedBy probesIn profileIn recordAt twoAt
+    fourAt
 of-logs = Unit {0}
 
 unfoldable pub of-bursts : Type 0
