@@ -148,7 +148,8 @@ module _ (s : State) (load level : ℕ) (t : Tuning) (l : Loads) (h : LaidOut s)
   abbrev Steers : Type 0
   Steers = steeredTo s t l ≡ stateOf (withControl (viewOf s) (sampled (controlOn s) load))
 
-  steers : t ≡ tuned (s .profile) (s .tuning) (movedIn (controlOn s) load .level) load → l ≡ loadsAfter (controlOn s) load → Steers
+  steers : t ≡ tuned (s .profile) (s .tuning) (movedIn (controlOn s) load .level) load → l ≡ loadsAfter (controlOn s) load
+      → Steers
   unfolding sampled
   steers e f =
       let line : s .line ≡ packed (items (s .line)) = ap (λ (x : State). x .line) h in

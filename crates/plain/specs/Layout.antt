@@ -53,8 +53,8 @@ stateOf v =
 abbrev pub LaidOut : State → Type 0
 LaidOut s = s ≡ stateOf (viewOf s)
 
--- "A state is sound if": what it says is, and everything unused in its line and its ledger is zero. It says its
--- loads and its list as they lie, so that their unused room is judged with them
+-- "A state is sound if": what it says is, and everything unused in its line and its ledger is zero. It says
+-- its loads and its list as they lie, so that their unused room is judged with them
 unfoldable pub soundState : State → Bool
 soundState s = (tidy (s .line) && ledger.tidy (s .ledger)) && sound (viewOf s)
 

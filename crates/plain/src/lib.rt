@@ -40,8 +40,8 @@ use model::Packet;
 use rules::Sample;
 
 // One engine's state. `oldway` is 1 where an offer of a priority of which five wait is refused, 0 where it
-// displaces the first of those. `live` is 1, or 0 before a make that was not refused. The loads and the levels
-// are profile 5's, and zero in every other.
+// displaces the first of those. `live` is 1, or 0 before a make that was not refused. The loads and the
+// levels are profile 5's, and zero in every other.
 #[repr(C)]
 pub struct State {
     pub line: Line,

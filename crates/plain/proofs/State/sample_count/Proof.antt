@@ -63,10 +63,12 @@ steer-requires c κs =
     let in-order = asked .before .if1 .left in
     let e = entered (s .args .self) (s .args .stamp) (sym (asked .before .before .refusal .ensures .0) ∙ in-order) in
     let good = sym (asked .is-bad-count .ensures) ∙ moved .before .if2 .left in
-    let given = (asked .before .before .refusal .ensures .1 in-order, sound-parts _ (e .is-sound) .2) in (
+    let k = known _ (asked .before .before .refusal .ensures .1 in-order, sound-parts _ (e .is-sound) .2) in (
       advanced-laid (s .args .self) _ (s .args .stamp) (moved .advance .ensures),
-      advanced-steerable (s .args .self) _ (s .args .stamp) (moved .advance .ensures) (known (s .args .self) given .control),
-      omega (arith, c .load .ensures, load-le (s .args .busy) (s .args .probes) good),
+      (
+        advanced-steerable (s .args .self) _ (s .args .stamp) (moved .advance .ensures) (k .control),
+        omega (arith, c .load .ensures, load-le (s .args .busy) (s .args .probes) good),
+      ),
     )
 
 returns-3 : tie.Need-returns-3
