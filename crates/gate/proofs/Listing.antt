@@ -1,19 +1,21 @@
 -- What a plan is told of profile 5's list and loads comes to the model's: in profile 5 the loads are noted and the level is that of
 -- the loads as noted; in every other nothing is noted, and neither the level told nor the wait listed is looked at.
-use Prim.Native.Nat.{ℕ, _+_, _<_}
+use Prim.Native.Nat.{ℕ, _+_, _-_, _<_}
 use mathlib.Core.Path.{_≡_, refl, ap, ap₂, _∙_}
 use mathlib.Core.Bool.{true, false, cond}
-use mathlib.Core.List.{List}
+use mathlib.Core.List.{List, [], _∷_, _++_}
 use native.Mathlib.Omega.{arith}
 use lib.Dec.{eqb}
+use lib.ListN.{length, length-drop}
 use borrow.Author.Tests.{eqb-true, eqb-false}
 use Rattle.rules.specs.Profiles.{isProfile, byProfile}
 use Rattle.rules.specs.Samples.{loadOf}
 use Rattle.rules.specs.Wait.{startOf}
 use Rattle.rules.proofs.Cases.{split, within-true}
+use Rattle.packing.proofs.Packing.{length-filled}
 use Rattle.machine.specs.declared.Loads.{Loads}
 use Rattle.machine.specs.Levels.{thresholds}
-use Rattle.machine.specs.Loads.{loads, noted, notedIf}
+use Rattle.machine.specs.Loads.{mostLoads, loads, noted, packed, notedIf}
 use Rattle.machine.specs.Moves.{levelAfter, movedBy}
 use Rattle.machine.proofs.Noted.{loads-packed}
 use Rattle.control.specs.Control.{Control, tuned, movedIn, loadsAfter}
@@ -96,6 +98,15 @@ noted-some number profile Poll h = absurd (omega arith)
 noted-alike : (more load : ℕ) (l : Loads) → notedIf more (cond (eqb more 0) 0 load) l ≡ notedIf more load l
 unfolding notedIf
 noted-alike more load l = split (eqb more 0) (λ e. rw e) (λ e. rw e)
+
+-- noting keeps the room
+pub noted-room : (more load : ℕ) (l : Loads) → length (l .slots) ≡ mostLoads → length (notedIf more load l .slots) ≡ mostLoads
+unfolding notedIf packed
+noted-room more load l h =
+    let xs = loads l ++ (load ∷ []) in
+    split (eqb more 0) (λ e. rw e h)
+    (λ e. rw e
+    (length-filled mostLoads 0 (noted (loads l) load) (omega (arith, length-drop (length xs - mostLoads) xs))))
 
 -- the loads that a call leaves, and the level that they move to, from what its functions give
 module _ (s : State) (number : ℕ) (r : Request) (more load : ℕ) (held : Loads) (em : more ≡ loadsNoted number (s .profile) r)
