@@ -23,6 +23,14 @@ static void parts(void) {
     FIELD(ledger, len);
     FIELD(ledger, ats);
     FIELD(ledger, ontimes);
+    SIZE(loads);
+    FIELD(loads, len);
+    FIELD(loads, slots);
+    SIZE(levels);
+    FIELD(levels, len);
+    FIELD(levels, wait);
+    FIELD(levels, above);
+    FIELD(levels, waits);
     SIZE(clock);
     FIELD(clock, time);
     FIELD(clock, stamp);
@@ -48,6 +56,8 @@ static void wholes(void) {
     SIZE(state);
     FIELD(state, queues);
     FIELD(state, ledger);
+    FIELD(state, loads);
+    FIELD(state, levels);
     FIELD(state, clock);
     FIELD(state, last);
     FIELD(state, counts);

@@ -146,7 +146,9 @@ static void report(const pair *both) {
 /* Answers 1 if both engines agreed at every call. */
 static uint32_t run(uint32_t profile, uint32_t when_full) {
     uint64_t row = UINT64_C(0x9E3779B97F4A7C15) + profile;
-    pair both = {presscurlew_make(profile, when_full, 0).state, presscurlew_plain_make(profile, when_full, 0).state,
+    presscurlew_levels list = presscurlew_no_list();
+    pair both = {presscurlew_make(profile, when_full, list, 0).state,
+                 presscurlew_plain_make(profile, when_full, list, 0).state,
                  {0}, 0, 1};
     uint32_t calls = 0;
 

@@ -1,6 +1,7 @@
 // The first edition's state machine: its list of levels, its last loads, the level that a sample leaves, and
 // the wait of a level (document 02, W-213). What reads numbers takes them as slices, so that a caller lends
-// its arrays where they lie; methods do the same for the structs. What is public answers for every input.
+// its arrays where they lie; methods do the same for the structs. What is public answers for every input, but
+// for `note_load`, which writes and asks for the 50 places that a struct has.
 ghost use mathlib.Core.Path.{_≡_};
 ghost use Prim.Native.Nat.{_≤_, _-_, min, max};
 ghost use lib.ListN.{length, take};
@@ -9,6 +10,7 @@ ghost use Rattle.packing.specs.Packing.{allAre, filled, isUnused};
 ghost use Rattle.machine.specs.Levels.{listed, levelsOf, thresholds, waitAt, waitOf, rising};
 ghost use Rattle.machine.specs.Levels.{goodList, soundList, tidied, noneListed, noLevels};
 ghost use Rattle.machine.specs.Loads.{loads, loadsOf, noted, packed, soundLoads, noneHeld, noLoads};
+ghost use Rattle.machine.specs.Loads.{mostLoads, notedIf};
 ghost use Rattle.machine.specs.Moves.{leastOf, greatestOf, lowOf, highOf, highest};
 ghost use Rattle.machine.specs.Moves.{levelAfter, movedBy};
 
@@ -255,6 +257,29 @@ pub fn are_loads_none(n: usize, slots: &[u32]) -> bool
     are_zero(slots)
 }
 
+// A load noted behind n others, in their place, unless `more` is 0; of 50 the oldest goes. How many there are
+// then.
+pub fn note_load(n: usize, slots: &mut [u32], load: u32, more: usize) -> usize
+    requires { ⌜ length (now slots) ≡ mostLoads ⌝ }
+    ensures { λ r. ⌜ loadsOf r (now (slots .exit)) ≡ notedIf more load (loadsOf n (now (slots .entry))) ⌝ }
+{
+    if more == 0 {
+        return n;
+    }
+    if n < 50 {
+        clear(n, slots);
+        slots[n] = load;
+        return n + 1;
+    }
+    let mut i: usize = 0;
+    while i < 49 {
+        slots[i] = slots[i + 1];
+        i += 1;
+    }
+    slots[49] = load;
+    50
+}
+
 // The least of the last 10 of n loads, 0 before there are ten.
 pub fn low(n: usize, slots: &[u32]) -> u32
     ensures { λ r. ⌜ r ≡ lowOf (take n (now (slots .entry))) ⌝ }
@@ -430,20 +455,9 @@ impl Loads {
     pub fn note(self, load: u32) -> Loads
         ensures { λ r. ⌜ r ≡ packed (noted (loads self) load) ⌝ }
     {
-        let n = self.len;
         let mut slots = self.slots;
-        if n < 50 {
-            clear(n, &mut slots);
-            slots[n] = load;
-            return Loads { len: n + 1, slots };
-        }
-        let mut i: usize = 0;
-        while i < 49 {
-            slots[i] = slots[i + 1];
-            i += 1;
-        }
-        slots[49] = load;
-        Loads { len: 50, slots }
+        let len = note_load(self.len, &mut slots, load, 1);
+        Loads { len, slots }
     }
 
     // The least of the last 10, 0 before there are ten.

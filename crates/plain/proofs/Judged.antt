@@ -8,7 +8,7 @@ use borrow.Author.Tests.{ne-eqb, eq-eqb, le-leb, lt-leb, ltb-true, ltb-false}
 use Rattle.rules.specs.Tests.{allOf}
 use Rattle.rules.specs.Clock.{endOfTime, passesEnd}
 use Rattle.rules.proofs.Cases.{both}
-use Rattle.control.specs.Control.{controlOf, soundControl}
+use Rattle.control.specs.Control.{soundControl}
 use Rattle.model.specs.Ledger.{ledgerRules}
 use Rattle.model.specs.State.{lastRules, countRules, sound}
 use Rattle.ledger.specs.Layout as ledger
@@ -17,7 +17,7 @@ use Rattle.line.specs.Line.{listRules}
 use Rattle.line.specs.Layout.{items, tidy, Packed, soundLine}
 use Rattle.line.proofs.Packing.{packed-length}
 use Rattle.plain.specs.declared.State.{State}
-use Rattle.plain.specs.Layout.{LaidOut, soundState}
+use Rattle.plain.specs.Layout.{controlOn, LaidOut, soundState}
 
 pub in-time : (time : ℕ) → passesEnd time ≡ false → time ≤ endOfTime
 unfolding passesEnd
@@ -29,7 +29,7 @@ no u P e = (sym e, λ z. absurd (false≢true z))
 
 module _ (s : State) where
   abbrev steered : Bool
-  steered = soundControl (controlOf (s .profile) (s .tuning))
+  steered = soundControl (controlOn s)
 
   abbrev lasting : Bool
   lasting = allOf (lastRules (s .profile) (s .clock .time) (s .last))
@@ -110,6 +110,8 @@ module _ (s : State) where
       record {
         line = p i;
         ledger = l i;
+        loads = s .loads;
+        levels = s .levels;
         clock = s .clock;
         last = s .last;
         counts = s .counts;

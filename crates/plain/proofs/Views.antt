@@ -12,7 +12,8 @@ use Rattle.rules.specs.Profiles.{profile3, mostOffers}
 use Rattle.rules.proofs.Cases.{split, both}
 use Rattle.rules.proofs.Tests.{tested, all-true}
 use Rattle.rules.proofs.Profiles.{ontime-le}
-use Rattle.control.specs.Control.{controlOf, soundControl}
+use Rattle.control.specs.Control.{Steerable}
+use Rattle.control.proofs.Controls.{test-control, steerable}
 use Rattle.model.specs.declared.Admission.{Admission}
 use Rattle.model.specs.declared.Last.{Last}
 use Rattle.model.specs.Ledger.{mostAir, airOf, ledgerRules}
@@ -29,7 +30,7 @@ use Rattle.line.specs.Layout.{places, items, packed, Packed, tidy}
 use Rattle.line.proofs.Packing.{items-packed, packed-length}
 use Rattle.line.proofs.Rules.{at-most-twenty}
 use Rattle.plain.specs.declared.State.{State}
-use Rattle.plain.specs.Layout.{viewOf, stateOf, LaidOut, soundState, Given, InOrder, forty}
+use Rattle.plain.specs.Layout.{controlOn, viewOf, stateOf, LaidOut, soundState, Given, InOrder, forty}
 
 pub view-state : (v : Listed) → viewOf (stateOf v) ≡ v
 view-state v = λ i. withWaiting (withLedger v (ledger-laws.items-packed (v .ledger) i)) (items-packed (v .waiting) i)
@@ -60,7 +61,7 @@ last-ontime profile now l h =
 
 -- what is known of a state that is given
 pub record Known (s : State) : Type 0 where
-  pub control : soundControl (controlOf (s .profile) (s .tuning)) ≡ true
+  pub control : Steerable (s .profile) (s .tuning)
   pub time : s .clock .time ≤ endOfTime
   pub last-past : s .last .at ≤ s .clock .time
   pub last-air : s .last .ontime ≤ profile3 .limits .ontime
@@ -92,7 +93,7 @@ known s g =
     let last = test-last (s .profile) now (s .last) (h .1 .1 .1 .1 .0) in
     let l = test-ledger (s .profile) now (s .last) (ledger.items (s .ledger)) (h .1 .1 .1 .1 .1 .1 .1 .0) in
     record {
-      control = h .1 .1 .0;
+      control = steerable (s .profile) (s .levels .len) (s .tuning) (test-control (controlOn s) (h .1 .1 .0) .tuning);
       time = time;
       last-past = last .past;
       last-air = last-ontime (s .profile) now (s .last) last;

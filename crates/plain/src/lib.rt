@@ -6,21 +6,22 @@ ghost use mathlib.Core.List.{[], _∷_, _++_};
 ghost use lib.Dec.{leb, eqb};
 ghost use lib.ListN.{length};
 ghost use Prim.Native.Nat.{_-_, _≤_, _<_, max};
-ghost use Rattle.rules.specs.Profiles.{lastPriority, room};
+ghost use Rattle.rules.specs.Profiles.{lastPriority, room, fullLoad};
 ghost use Rattle.rules.specs.Refusals.{firstOf};
 ghost use Rattle.rules.specs.Clock.{endOfTime};
-ghost use Rattle.control.specs.Control.{controlOf};
+ghost use Rattle.machine.specs.Loads.{noLoads};
+ghost use Rattle.control.specs.Control.{controlOf, sampled, Steerable};
 ghost use Rattle.model.specs.declared.Answer.the-variants.{Refused};
-ghost use Rattle.model.specs.Calls.{words, count, offer, poll};
+ghost use Rattle.model.specs.Calls.{words, count, offer, poll, makingOf};
 ghost use Rattle.model.specs.Ledger.{mostAir, young, airOf, allowedFrom};
-ghost use Rattle.model.specs.State.{blank, notLive};
+ghost use Rattle.model.specs.State.{blank, notLive, withControl};
 ghost use Rattle.model.specs.Effects.{moved, refreshed, roomMade, joined, waitLeft, airLeft, admits};
 ghost use Rattle.model.specs.Gate.{roomChecks};
 ghost use Rattle.ledger.specs.Layout as ledger;
 ghost use Rattle.line.specs.Line.{countOf, without};
 ghost use Rattle.line.specs.Layout.{items};
 ghost use Rattle.plain.specs.Layout.{viewOf, stateOf, LaidOut, soundState, Given, outcome, callOn};
-ghost use Rattle.plain.specs.Layout.{makeState, entryNumber, InOrder, forty};
+ghost use Rattle.plain.specs.Layout.{controlOn, makeState, entryNumber, InOrder, forty};
 ghost use Rattle.plain.specs.Bursts.{offeredBy, burstState, burstAnswers};
 ghost use Rattle.calllog.specs.Bursts.{burstNumber};
 ghost use Rattle.plain.specs.Runs.{Agrees};
@@ -28,6 +29,8 @@ use calllog::Record;
 use control::Tuning;
 use ledger::Ledger;
 use line::Line;
+use machine::Levels;
+use machine::Loads;
 use model::Answer;
 use model::Clock;
 use model::Counts;
@@ -37,11 +40,14 @@ use model::Packet;
 use rules::Sample;
 
 // One engine's state. `oldway` is 1 where an offer of a priority of which five wait is refused, 0 where it
-// displaces the first of those. `live` is 1, or 0 before a make that was not refused.
+// displaces the first of those. `live` is 1, or 0 before a make that was not refused. The loads and the
+// levels are profile 5's, and zero in every other.
 #[repr(C)]
 pub struct State {
     pub line: Line,
     pub ledger: Ledger,
+    pub loads: Loads,
+    pub levels: Levels,
     pub clock: Clock,
     pub last: Last,
     pub counts: Counts,
@@ -133,7 +139,9 @@ impl State {
         }
         let profile = self.profile;
         let tuning = self.tuning;
-        if !control::is_sound(profile, tuning) {
+        let levels = self.levels;
+        let loads = self.loads;
+        if !control::is_sound(profile, tuning, levels, loads) {
             return false;
         }
         let now = self.clock.time;
@@ -214,6 +222,26 @@ impl State {
         s
     }
 
+    // A sample's load moves what samples steer. In profile 5 it is noted first, so that it counts.
+    fn steer(mut self, load: u32) -> State
+        requires { ⌜ LaidOut self ⌝ }
+        requires { ⌜ Steerable (self .profile) (self .tuning) ⌝ }
+        requires { ⌜ load ≤ fullLoad ⌝ }
+        ensures { λ r. ⌜ r ≡ stateOf (withControl (viewOf self) (sampled (controlOn self) load)) ⌝ }
+    {
+        let tuning = self.tuning;
+        let levels = self.levels;
+        let mut loads = self.loads;
+        let mut level = tuning.level;
+        if self.profile == rules::LISTED {
+            loads = loads.note(load);
+            level = levels.level_after(loads, level);
+        }
+        self.tuning = control::tuning_after(self.profile, tuning, level, load);
+        self.loads = loads;
+        self
+    }
+
     // A sample by its busy count.
     pub fn sample_count(mut self, busy: u32, probes: u32, stamp: u32) -> Outcome
         ensures { λ r. ⌜ r ≡ callOn self (count stamp busy probes) ⌝ }
@@ -225,11 +253,9 @@ impl State {
         if rules::is_bad_count(busy, probes) {
             return self.refused(4);
         }
-        let tuning = control::tuning_after(self.profile, self.tuning, rules::load(busy, probes));
-        let mut s = self.advance(stamp);
-        s.tuning = tuning;
+        let s = self.advance(stamp);
         Outcome {
-            state: s,
+            state: s.steer(rules::load(busy, probes)),
             answer: Answer::Taken,
         }
     }
@@ -309,7 +335,10 @@ impl State {
     {
         let last = self.last;
         let now = self.clock.time;
-        let closed = control::closed_after(self.profile, self.tuning, last.ontime);
+        let tuning = self.tuning;
+        let levels = self.levels;
+        let listed = levels.wait(tuning.level);
+        let closed = control::closed_after(self.profile, tuning, listed, last.ontime);
         let left = decide::left_of(closed, last, now);
         let late = air_left(self.ledger, p.ontime, now);
         decide::longer(left, late)
@@ -408,12 +437,20 @@ pub fn burst(mut state: State, records: &[u8], answers: &mut [u8]) -> BurstTurn
     BurstTurn { state, number: 0 }
 }
 
-// A state with nothing waiting, nothing admitted and nothing counted.
-fn blank_state(live: u32, oldway: u32, clock: Clock, profile: u32, tuning: Tuning) -> State
-    ensures { λ r. ⌜ r ≡ stateOf (blank live oldway clock (controlOf profile tuning)) ⌝ }
+// A state with nothing waiting, nothing admitted, no load and nothing counted.
+fn blank_state(
+    live: u32,
+    oldway: u32,
+    clock: Clock,
+    profile: u32,
+    tuning: Tuning,
+    levels: Levels,
+) -> State
+    ensures { λ r. ⌜ r ≡ stateOf (blank live oldway clock (controlOf profile tuning levels noLoads)) ⌝ }
 {
     let line = line::empty();
     let ledger = ledger::empty();
+    let loads = Loads::none();
     let last = Last {
         at: 0,
         ontime: 0,
@@ -428,6 +465,8 @@ fn blank_state(live: u32, oldway: u32, clock: Clock, profile: u32, tuning: Tunin
     State {
         line,
         ledger,
+        loads,
+        levels,
         clock,
         last,
         counts,
@@ -439,32 +478,38 @@ fn blank_state(live: u32, oldway: u32, clock: Clock, profile: u32, tuning: Tunin
 }
 
 // What a refused make gives: the all-zero, not live state.
-fn refused_make() -> Outcome
-    ensures { λ r. ⌜ r ≡ outcome (stateOf notLive) (Refused 1) ⌝ }
+fn refused_make(number: u32) -> Outcome
+    ensures { λ r. ⌜ r ≡ outcome (stateOf notLive) (Refused number) ⌝ }
 {
     let clock = Clock { time: 0, stamp: 0 };
     let tuning = control::none();
-    let state = blank_state(0, 0, clock, 0, tuning);
+    let levels = Levels::none();
+    let state = blank_state(0, 0, clock, 0, tuning, levels);
     Outcome {
         state,
-        answer: Answer::Refused(1),
+        answer: Answer::Refused(number),
     }
 }
 
-// A fresh state; the all-zero one with the refusal of a bad profile, or of a way that is neither 0 nor 1.
-pub fn make(profile: u32, oldway: u32, stamp: u32) -> Outcome
-    ensures exact { λ r. ⌜ r ≡ makeState (record { profile = profile; oldway = oldway; stamp = stamp }) ⌝ }
-    ensures same { λ r. ⌜ Agrees r (record { profile = profile; oldway = oldway; stamp = stamp }) ⌝ }
+// A fresh state; the all-zero one with the refusal of a bad profile, of a way that is neither 0 nor 1, or, in
+// profile 5 alone, of a bad list.
+pub fn make(profile: u32, oldway: u32, list: Levels, stamp: u32) -> Outcome
+    ensures exact { λ r. ⌜ r ≡ makeState (makingOf profile oldway list stamp) ⌝ }
+    ensures same { λ r. ⌜ Agrees r (makingOf profile oldway list stamp) ⌝ }
 {
     if !rules::lies_within(rules::FIRST_PROFILE, rules::LAST_PROFILE, profile) {
-        return refused_make();
+        return refused_make(1);
     }
     if 1 < oldway {
-        return refused_make();
+        return refused_make(1);
+    }
+    if control::is_list_refused(profile, list) {
+        return refused_make(15);
     }
     let clock = Clock { time: 0, stamp };
     let tuning = control::fresh();
-    let state = blank_state(1, oldway, clock, profile, tuning);
+    let levels = control::list_kept(profile, list);
+    let state = blank_state(1, oldway, clock, profile, tuning, levels);
     Outcome {
         state,
         answer: Answer::Ready,

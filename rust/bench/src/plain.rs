@@ -38,12 +38,41 @@ impl Default for Ledger {
     }
 }
 
+/// Profile 5's list of levels, laid out as the archive's.
+#[derive(Clone, Copy, Default, PartialEq, Eq, Debug)]
+#[repr(C)]
+pub struct Levels {
+    pub len: usize,
+    pub wait: u32,
+    pub above: [u32; 8],
+    pub waits: [u32; 8],
+}
+
+/// Profile 5's last loads, laid out as the archive's.
+#[derive(Clone, Copy, PartialEq, Eq, Debug)]
+#[repr(C)]
+pub struct Loads {
+    pub len: usize,
+    pub slots: [u32; 50],
+}
+
+impl Default for Loads {
+    fn default() -> Loads {
+        Loads {
+            len: 0,
+            slots: [0; 50],
+        }
+    }
+}
+
 /// A gate's state, laid out as the archive's.
 #[derive(Clone, Copy, Default, PartialEq, Eq, Debug)]
 #[repr(C)]
 pub struct State {
     pub queues: [Queue; 4],
     pub ledger: Ledger,
+    pub loads: Loads,
+    pub levels: Levels,
     pub time: u64,
     pub stamp: u32,
     pub gap: u32,
@@ -104,7 +133,7 @@ pub fn busy_of(probes: u32, words: &[u64]) -> Option<u32> {
 
 fn most_ontime(profile: u32) -> u32 {
     match profile {
-        1 => 1000,
+        1 | 5 => 1000,
         2 => 500,
         _ => 4000,
     }
@@ -238,6 +267,85 @@ impl Ledger {
     }
 }
 
+/// Whether all numbers are zero: read to their end, many at once.
+fn are_zero(numbers: &[u32]) -> bool {
+    numbers.iter().fold(0, |bits, number| bits | number) == 0
+}
+
+impl Levels {
+    /// Whether a gate of profile 5 may be made of the list.
+    pub fn is_good(&self) -> bool {
+        let n = self.len;
+        if !(1..=8).contains(&n) || !is_wait(self.wait) {
+            return false;
+        }
+        let mut below = 0;
+        for (&above, &wait) in self.above[..n].iter().zip(&self.waits[..n]) {
+            if above <= below || above > 1_000_000 || !is_wait(wait) {
+                return false;
+            }
+            below = above;
+        }
+        true
+    }
+
+    fn is_sound(&self) -> bool {
+        self.is_good() && are_zero(&self.above[self.len..]) && are_zero(&self.waits[self.len..])
+    }
+
+    /// The list with nothing past its length.
+    pub fn tidied(mut self) -> Levels {
+        self.above[self.len..].fill(0);
+        self.waits[self.len..].fill(0);
+        self
+    }
+
+    fn reached(&self, load: u32) -> u32 {
+        let rising = self.above[..self.len].iter();
+        rising.take_while(|&&above| above <= load).count() as u32
+    }
+
+    fn wait_of(&self, level: u32) -> u32 {
+        match level {
+            0 => self.wait,
+            _ => self.waits[level as usize - 1],
+        }
+    }
+}
+
+fn is_wait(wait: u32) -> bool {
+    (40_000..=1_000_000).contains(&wait)
+}
+
+impl Loads {
+    fn is_sound(&self) -> bool {
+        let n = self.len;
+        n <= 50
+            && self.slots[..n].iter().all(|&load| load <= 1_000_000)
+            && are_zero(&self.slots[n..])
+    }
+
+    fn push(&mut self, load: u32) {
+        if self.len == 50 {
+            self.slots.copy_within(1.., 0);
+            self.len = 49;
+        }
+        self.slots[self.len] = load;
+        self.len += 1;
+    }
+
+    /// The least of the last ten, or 0, and the greatest of all.
+    fn low_and_high(&self) -> (u32, u32) {
+        let held = &self.slots[..self.len];
+        let high = held.iter().copied().max().unwrap_or(0);
+        let low = match held.len() {
+            0..10 => 0,
+            n => held[n - 10..].iter().copied().min().unwrap_or(0),
+        };
+        (low, high)
+    }
+}
+
 impl State {
     pub fn new(profile: u32, oldway: u32, stamp: u32) -> State {
         State {
@@ -250,12 +358,42 @@ impl State {
         }
     }
 
+    /// A state of profile 5 with a good list.
+    pub fn listed(levels: Levels, oldway: u32, stamp: u32) -> State {
+        State {
+            levels: levels.tidied(),
+            ..State::new(5, oldway, stamp)
+        }
+    }
+
+    /// Whether the list and the loads are profile 5's, or there are none.
+    fn is_listing_sound(&self) -> bool {
+        if self.profile == 5 {
+            return self.levels.is_sound()
+                && self.level as usize <= self.levels.len
+                && self.loads.is_sound();
+        }
+        let Levels {
+            len,
+            wait,
+            above,
+            waits,
+        } = &self.levels;
+        self.level <= 4
+            && self.loads.len == 0
+            && *len == 0
+            && *wait == 0
+            && are_zero(&self.loads.slots)
+            && are_zero(above)
+            && are_zero(waits)
+    }
+
     /// The whole soundness test.
     pub fn is_sound(&self) -> bool {
         let tuning = self.live == 1
-            && (1..=4).contains(&self.profile)
+            && (1..=5).contains(&self.profile)
             && self.oldway <= 1
-            && self.level <= 4
+            && self.is_listing_sound()
             && (600_000..=30_000_000).contains(&self.duty)
             && self.smoothed <= 1_000_000
             && self.kept <= 1_000_000
@@ -326,6 +464,11 @@ impl State {
     fn take_load(&mut self, load: u32) {
         if self.profile == 4 {
             self.latest = load;
+        } else if self.profile == 5 {
+            self.loads.push(load);
+            let (low, high) = self.loads.low_and_high();
+            let (up, down) = (self.levels.reached(low), self.levels.reached(high));
+            self.level = self.level.clamp(up, down);
         } else if self.profile != 3 {
             let last = if self.profile == 1 { 600_000 } else { 650_000 };
             let wanted = match load {
@@ -361,6 +504,9 @@ impl State {
         ];
         if self.profile < 3 {
             return self.ontime as u64 + WAITS[self.profile as usize - 1][self.level as usize];
+        }
+        if self.profile == 5 {
+            return (self.ontime + self.levels.wait_of(self.level)) as u64;
         }
         if self.profile == 4 {
             return (self.ontime + harmonised_wait(self.ontime, self.latest)) as u64;

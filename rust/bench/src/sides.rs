@@ -4,7 +4,7 @@
 use presscurlew::sys;
 
 use crate::places::{Call, Run};
-use crate::plain::{by_value, Answer, Ledger, Packet, Queue, State};
+use crate::plain::{by_value, Answer, Ledger, Levels, Loads, Packet, Queue, State};
 
 /// The state that a row starts from, as the archive has it and as plain Rust does.
 #[derive(Clone, Copy)]
@@ -62,6 +62,16 @@ fn state(s: sys::State) -> State {
             len: s.ledger.len as usize,
             ats: s.ledger.ats,
             ontimes: s.ledger.ontimes,
+        },
+        loads: Loads {
+            len: s.loads.len as usize,
+            slots: s.loads.slots,
+        },
+        levels: Levels {
+            len: s.levels.len as usize,
+            wait: s.levels.wait,
+            above: s.levels.above,
+            waits: s.levels.waits,
         },
         time: s.clock.time,
         stamp: s.clock.stamp,

@@ -8,10 +8,11 @@
 mod help;
 
 use help::{
-    archive_write, hold, hold_burst, hold_no_state, hold_no_state_burst, hold_write, raw, Call,
-    LogCall, ACCEPTED_MOST, EDGE_COUNTS, EDGE_LIFETIMES, EDGE_ONTIMES, EDGE_PRIORITIES,
-    EDGE_PROBES, EDGE_STEPS, TIME_END,
+    archive_write, fresh, hold, hold_burst, hold_no_state, hold_no_state_burst, hold_write,
+    levels_of, raw, Call, LogCall, ACCEPTED_MOST, EDGE_COUNTS, EDGE_LIFETIMES, EDGE_ONTIMES,
+    EDGE_PRIORITIES, EDGE_PROBES, EDGE_STEPS, TIME_END,
 };
+use reference::levels::{Levels, Loads};
 use reference::log::{read, Record, RECORD_BYTES};
 use reference::state::{sound, Admission, Packet, State};
 
@@ -68,7 +69,7 @@ impl Input<'_> {
 
     /// Any state, often a sound one.
     fn state(&mut self) -> State {
-        let profile = self.of(&[1, 2, 3, 4, 0, 5]);
+        let profile = self.of(&[1, 2, 3, 4, 5, 0, 6]);
         let (way, stamp) = (
             self.of(&[0, 1, 0, 1, 2]),
             self.of(&[0, 1, 1 << 31, u32::MAX]),
@@ -92,8 +93,42 @@ impl Input<'_> {
             _ => 0,
         };
         self.fill_queues(&mut state);
+        let state = self.listed(state);
         let state = self.admitted(state);
         self.counted(state)
+    }
+
+    /// The state with a list of levels and last loads if it is of profile 5; now and then one number is another, in any
+    /// profile.
+    fn listed(&mut self, mut state: State) -> State {
+        if state.profile == 5 {
+            let waits = [40_000, 1_000_000, 100_000, 39_999, 1_000_001];
+            let (mut above, mut listed) = (0u32, vec![]);
+            for _ in 0..1 + self.byte() % 8 {
+                let more = self.of(&[1, 1_000, 100_000, 125_000, 0]);
+                above = above.saturating_add(more);
+                listed.push((above, self.of(&waits)));
+            }
+            state.levels = Levels::of(self.of(&waits), &listed);
+            let mut loads = vec![];
+            for _ in 0..self.byte() % 8 {
+                let load = self.of(&[0, above, above.saturating_sub(1), 1_000_000, 1_000_001]);
+                loads.extend(vec![load; usize::from(self.byte() % 16)]);
+            }
+            state.loads = Loads::of(&loads);
+            state.level = self.of(&[0, 1, 4, 5, 8, 9]);
+        }
+        let place = usize::from(self.byte());
+        match self.byte() {
+            250 => state.levels.len = u64::from(self.number()) << (self.byte() % 64),
+            251 => state.levels.wait = self.of(&[0, 40_000]),
+            252 => state.levels.above[place % 8] = self.number(),
+            253 => state.levels.waits[place % 8] = self.number(),
+            254 => state.loads.len = u64::from(self.of(&[0, 10, 49, 50, 51])),
+            255 => state.loads.slots[place % 50] = self.of(&[0, 1, 1_000_000, 1_000_001]),
+            _ => {}
+        }
+        state
     }
 
     /// The state with a last admission and those before it in a ledger, often a sound one.
@@ -249,6 +284,7 @@ impl Input<'_> {
             0 => LogCall::Make {
                 profile: self.of(&[1, 2, 3, 4, 0, 5, 255, 256, u32::MAX]),
                 oldway: self.of(&[0, 1, 2, 256, u32::MAX]),
+                levels: levels_of(5),
                 stamp,
             },
             1 => LogCall::On(Call::Offer {
@@ -281,6 +317,7 @@ fn try_write(input: &mut Input, call: &Call) {
     let call = read(&Record::from_bytes(&bytes)).expect("a kind of 0 to 3");
     let mut back = [0xa5; RECORD_BYTES];
     if archive_write(&call, &mut back, 0) == 0 {
+        // A make that was read has no list, and reads back so.
         let again = read(&Record::from_bytes(&back));
         assert_eq!(again, Ok(call), "fuzz: {bytes:?} written back as {back:?}");
     }
@@ -319,7 +356,7 @@ fn follow(bytes: &[u8]) {
         } else {
             hold_no_state(&raw(&state), &call, &"fuzz");
             // What was broken stays so: on with a fresh state.
-            state = State::fresh(1 + state.stamp % 4, state.stamp / 4 % 2, state.stamp);
+            state = fresh(1 + state.stamp % 5, state.stamp / 5 % 2, state.stamp);
         }
     }
 }

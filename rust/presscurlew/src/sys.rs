@@ -14,7 +14,7 @@
 //! ```
 //! use presscurlew::sys;
 //!
-//! let made = sys::presscurlew_make(2, sys::DROP_OLDEST, 0);
+//! let made = sys::presscurlew_make(2, sys::DROP_OLDEST, sys::Levels::NONE, 0);
 //! let offered = sys::presscurlew_offer(made.state, 7, 1, 400, 60_000, 100);
 //! let polled = sys::presscurlew_poll(offered.state, 200);
 //! assert_eq!((polled.reply.kind, polled.reply.packet.id), (sys::SENT, 7));
@@ -76,7 +76,7 @@ pub struct FloatAnswer {
 pub const VERSION_NUMBER: u32 = 9_000;
 /// The number of the layout that this module declares. An archive whose [`presscurlew_layout`] is another one has
 /// other structs or other calls, and must not be called; [`crate::Gate::new`] sees to it.
-pub const LAYOUT: u32 = 1_253_097_843;
+pub const LAYOUT: u32 = 318_383_014;
 
 // Safe to call: the archives' functions answer any numbers at all, and touch no memory of the caller's.
 #[allow(unsafe_code)]
@@ -102,7 +102,7 @@ unsafe extern "C" {
     ) -> DutyAnswer;
 
     /// The wait after a packet of this on-time, the latest sample having this load: from the packet's end in profiles
-    /// 1, 2 and 4, from its start in profile 3.
+    /// 1, 2 and 4, from its start in profile 3. Profile 5, whose waits stand in a list, is refused with 1.
     pub safe fn presscurlew_wait(
         profile: u32,
         level: u32,
@@ -180,6 +180,98 @@ impl Default for Ledger {
     }
 }
 
+/// A level of profile 5 above level 0.
+#[derive(Clone, Copy, Debug, PartialEq, Eq, Hash)]
+pub struct Level {
+    /// Its threshold, as a load: in parts per 1,000,000.
+    pub above: u32,
+    /// Its wait in µs.
+    pub wait: u32,
+}
+
+/// The most levels that a list has above level 0.
+pub const MOST_LEVELS: usize = 8;
+
+/// Profile 5's list of levels, which a make is given; in the state of any other profile it is [`Levels::NONE`]. Level 0
+/// has threshold 0 and the wait `wait`, and level k, from 1 to `len`, threshold `above[k - 1]` and wait `waits[k - 1]`.
+///
+/// A good list has 1 to 8 levels above level 0, waits of 40,000 to 1,000,000 µs, which may rise or fall, and thresholds
+/// that are at most 1,000,000 and rise strictly, the first above 0. What a list has past its length isn't looked at
+/// when a gate is made; in a state it is 0.
+#[repr(C)]
+#[derive(Clone, Copy, Debug, Default, PartialEq, Eq, Hash)]
+pub struct Levels {
+    /// How many levels there are above level 0, 1 to 8; the archive's lengths have 64 bits.
+    pub len: u64,
+    /// The wait of level 0 in µs.
+    pub wait: u32,
+    /// The thresholds of levels 1 to `len`, as loads.
+    pub above: [u32; MOST_LEVELS],
+    /// Their waits in µs.
+    pub waits: [u32; MOST_LEVELS],
+}
+
+impl Levels {
+    /// No list, for profiles 1 to 4.
+    pub const NONE: Levels = Levels {
+        len: 0,
+        wait: 0,
+        above: [0; MOST_LEVELS],
+        waits: [0; MOST_LEVELS],
+    };
+
+    /// A list of the wait of level 0 and of the levels above it. More than [`MOST_LEVELS`] have no room, and the list's
+    /// length says that there were more: no gate is made of it.
+    ///
+    /// ```
+    /// use presscurlew::sys::{self, Level, Levels};
+    ///
+    /// let list = Levels::of(60_000, &[Level { above: 500_000, wait: 400_000 }]);
+    /// assert_eq!((list.len, list.above[0], list.waits[0]), (1, 500_000, 400_000));
+    /// assert_eq!(sys::presscurlew_make(5, sys::DROP_OLDEST, list, 0).state.levels, list);
+    ///
+    /// let steps: Vec<Level> = (1..=9).map(|k| Level { above: 100_000 * k, wait: 100_000 }).collect();
+    /// let longer = Levels::of(60_000, &steps);
+    /// assert_eq!(sys::presscurlew_make(5, sys::DROP_OLDEST, longer, 0).reply.number, 15);
+    /// ```
+    pub fn of(wait: u32, listed: &[Level]) -> Levels {
+        let len = listed.len() as u64;
+        let mut list = Levels {
+            len,
+            wait,
+            ..Levels::NONE
+        };
+        for (place, level) in listed.iter().take(MOST_LEVELS).enumerate() {
+            list.above[place] = level.above;
+            list.waits[place] = level.wait;
+        }
+        list
+    }
+}
+
+/// The most loads that a state of profile 5 holds.
+pub const MOST_LOADS: usize = 50;
+
+/// The loads of the last samples that were taken, in profile 5; in the state of any other profile there are none.
+#[repr(C)]
+#[derive(Clone, Copy, Debug, PartialEq, Eq, Hash)]
+pub struct Loads {
+    /// How many it holds, 0 to 50.
+    pub len: u64,
+    /// The first `len`, the oldest first, in parts per 1,000,000; the others are 0.
+    pub slots: [u32; MOST_LOADS],
+}
+
+impl Default for Loads {
+    /// No loads.
+    fn default() -> Loads {
+        Loads {
+            len: 0,
+            slots: [0; MOST_LOADS],
+        }
+    }
+}
+
 /// The last admission, however long ago. Before the first one all fields are 0.
 #[repr(C)]
 #[derive(Clone, Copy, Debug, Default, PartialEq, Eq, Hash)]
@@ -210,7 +302,7 @@ pub struct Counts {
 #[repr(C)]
 #[derive(Clone, Copy, Debug, Default, PartialEq, Eq, Hash)]
 pub struct Tuning {
-    /// The level, 0 to 4.
+    /// The level, 0 to 4; in profile 5 one of its list, 0 to 8.
     pub level: u32,
     /// The duty, in parts per 1,000,000,000.
     pub duty: u32,
@@ -232,6 +324,10 @@ pub struct State {
     pub queues: [Queue; 4],
     /// The admissions of the last second.
     pub ledger: Ledger,
+    /// Profile 5's last loads.
+    pub loads: Loads,
+    /// Profile 5's list of levels; no call changes it.
+    pub levels: Levels,
     /// The clock.
     pub clock: Clock,
     /// The last admission.
@@ -240,7 +336,7 @@ pub struct State {
     pub counts: Counts,
     /// What samples steer.
     pub tuning: Tuning,
-    /// The profile, 1 to 4; no call changes it.
+    /// The profile, 1 to 5; no call changes it.
     pub profile: u32,
     /// [`DROP_OLDEST`] or [`REFUSE_NEW`]; no call changes it.
     pub oldway: u32,
@@ -313,8 +409,9 @@ pub const RECORD_OFFER: u8 = 2;
 // Safe to call, but for those that take pointers: any numbers and any state at all are answered.
 #[allow(unsafe_code)]
 unsafe extern "C" {
-    /// A fresh state; `when_full` is [`DROP_OLDEST`] or [`REFUSE_NEW`].
-    pub safe fn presscurlew_make(profile: u32, when_full: u32, stamp: u32) -> Turn;
+    /// A fresh state; `when_full` is [`DROP_OLDEST`] or [`REFUSE_NEW`], and the list is profile 5's: no other profile
+    /// looks at it.
+    pub safe fn presscurlew_make(profile: u32, when_full: u32, list: Levels, stamp: u32) -> Turn;
 
     /// A sample by words; [`sample_words`] is the same of a slice.
     ///
@@ -440,7 +537,7 @@ pub fn sample_words(state: State, probes: u32, words: &[u64], stamp: u32) -> Tur
 /// ```
 /// use presscurlew::{sys, Offer};
 ///
-/// let fresh = sys::presscurlew_make(1, sys::DROP_OLDEST, 0).state;
+/// let fresh = sys::presscurlew_make(1, sys::DROP_OLDEST, sys::Levels::NONE, 0).state;
 /// let offer = Offer { id: 7, priority: 1, ontime: 400, lifetime: 60_000 };
 /// let bad = Offer { priority: 4, ..offer };
 /// let records = [offer.record(100), bad.record(100)];
@@ -458,8 +555,9 @@ pub fn burst(state: State, records: &[u8], answers: &mut [u8]) -> BurstTurn {
 
 /// Writes a make's record, 16 bytes at `at` of the log, and answers 0. Other bytes of the log keep what they had.
 ///
-/// The answer is 1 if the profile is above 255 or `when_full` above 1, else 12 if there are no 16 bytes at `at`, and
-/// then nothing is written. A profile up to 255 is written, whatever it is worth.
+/// The answer is 1 if the profile is 5, whose list no record has room for, or above 255, or `when_full` is above 1,
+/// else 12 if there are no 16 bytes at `at`, and then nothing is written. Any other profile up to 255 is written,
+/// whatever it is worth.
 ///
 /// ```
 /// use presscurlew::sys;
@@ -470,6 +568,7 @@ pub fn burst(state: State, records: &[u8], answers: &mut [u8]) -> BurstTurn {
 /// assert_eq!(log[4..], [0, 3, 0, 0, 1, 0, 0, 0, 0, 0, 0, 0, 1, 2, 3, 4]);
 ///
 /// assert_eq!(sys::write_make(256, sys::REFUSE_NEW, 0, &mut log, 5), 1);
+/// assert_eq!(sys::write_make(5, sys::REFUSE_NEW, 0, &mut log, 4), 1);
 /// assert_eq!(sys::write_make(255, sys::REFUSE_NEW, 0, &mut log, 5), 12);
 /// ```
 #[allow(unsafe_code)]
@@ -577,7 +676,7 @@ mod tests {
 
     #[test]
     fn no_words_may_be_a_null_pointer() {
-        let fresh = presscurlew_make(1, DROP_OLDEST, 0).state;
+        let fresh = presscurlew_make(1, DROP_OLDEST, Levels::NONE, 0).state;
         for probes in [0, 1, 64, u32::MAX] {
             // SAFETY: with a count of 0 nothing is read.
             let turn = unsafe { presscurlew_sample_words(fresh, probes, ptr::null(), 0, 0) };
@@ -588,7 +687,7 @@ mod tests {
 
     #[test]
     fn no_records_and_no_answers_may_be_null_pointers() {
-        let fresh = presscurlew_make(1, DROP_OLDEST, 0).state;
+        let fresh = presscurlew_make(1, DROP_OLDEST, Levels::NONE, 0).state;
         let record = [RECORD_OFFER; RECORD_BYTES];
         for (bytes, number) in [(0, 0), (15, 13), (16, 12)] {
             let records = if bytes == 0 {

@@ -4,26 +4,34 @@
 use std::collections::BTreeMap;
 
 use crate::help::{
-    calls_at, hold, hold_no_state, hold_no_state_burst, raw, ACCEPTED_MOST, PROFILES, TIME_END,
+    calls_at, fresh, hold, hold_no_state, hold_no_state_burst, raw, ACCEPTED_MOST, PROFILES,
+    TIME_END,
 };
 use presscurlew::sys;
 use reference::ledgers::{self, row};
+use reference::lists;
 use reference::miscounts::{one_off, wrapping};
 use reference::rng::Rng;
 use reference::rules;
-use reference::state::{broken_rules, rule_names, sound, Admission, Counts, Packet, Queue, State};
+use reference::state::{
+    broken_rules, rule_names, sound, Admission, Counts, Levels, Loads, Packet, Queue, State,
+};
 
 pub const TIME: u64 = 5_000_000_000;
 
 /// A sound state with this many packets in each queue, and the more admissions the more packets; profile 3 keeps a
-/// sample, and profile 4 has had one. With an odd number a full queue refuses, with an even one it drops its oldest.
+/// sample, and profiles 4 and 5 have had some. With an odd number a full queue refuses, with an even one it drops its oldest.
 pub fn base(profile: u32, length: usize) -> State {
     let ontime = rules::on_time_max(profile).unwrap();
-    let mut state = State::fresh(profile, length as u32 % 2, 77);
+    let mut state = fresh(profile, length as u32 % 2, 77);
     state.time = TIME;
     state.haskept = profile == 3;
     state.kept = if state.haskept { 400_000 } else { 0 };
     state.latest = if profile == 4 { 700_000 } else { 0 };
+    if profile == 5 {
+        state.loads = Loads::of(&vec![400_000; 10 * length]);
+        state.level = 1;
+    }
     let admissions = row(1 + 7 * length as u64, 25_000, ontime.min(750), TIME - 10);
     for priority in 0..4 {
         let packet = Packet {
@@ -63,6 +71,26 @@ pub fn ledger_states(profile: u32) -> Vec<State> {
     states.collect()
 }
 
+/// Sound states of profile 5 with lists of every length and loads of many, at any level of the list; of the other
+/// profiles one state, which has neither.
+pub fn listed_states(profile: u32) -> Vec<State> {
+    let mut state = base(profile, 3);
+    if profile != 5 {
+        return vec![state];
+    }
+    let mut states = vec![];
+    for (length, many) in (1..=8).zip([0, 1, 9, 10, 11, 49, 50, 50]) {
+        let level = |k: u32| (125_000 * k, 40_000 + 120_000 * k);
+        let listed: Vec<(u32, u32)> = (1..=length).map(level).collect();
+        state.levels = Levels::of(40_000, &listed);
+        state.loads = Loads::of(&vec![1_000_000; many]);
+        for level in [0, length] {
+            states.push(State { level, ..state });
+        }
+    }
+    states
+}
+
 /// Broken states, each with the name of the rule that it breaks.
 #[derive(Default)]
 struct Broken {
@@ -77,17 +105,23 @@ impl Broken {
     }
 
     fn profile_and_tuning(&mut self, profile: u32) {
-        let (empty, full) = (State::fresh(profile, 0, 77), base(profile, 5));
+        let (empty, full) = (fresh(profile, 0, 77), base(profile, 5));
         self.add("live", full, |s| s.live = false);
-        for bad in [0, 5, 6, 256 + profile, 1 << 31, u32::MAX] {
-            self.add("profile 1 to 4", empty, |s| s.profile = bad);
+        for bad in [0, 6, 7, 256 + profile, 1 << 31, u32::MAX] {
+            // Of no profile that there is: a list would be a second rule broken.
+            self.add("profile 1 to 5", empty, |s| {
+                s.profile = bad;
+                s.levels = Levels::default();
+            });
         }
         for bad in [2, 3, 256, 1 << 31, u32::MAX] {
             self.add("old way 0 or 1", empty, |s| s.oldway = bad);
             self.add("old way 0 or 1", full, |s| s.oldway = bad);
         }
         for bad in [5, 6, 1 << 31, u32::MAX] {
-            self.add("level at most 4", full, |s| s.level = bad);
+            if profile != 5 {
+                self.add("level at most 4", full, |s| s.level = bad);
+            }
         }
         for bad in [0, 1, 599_999, 30_000_001, u32::MAX] {
             self.add("duty within limits", full, |s| s.duty = bad);
@@ -117,7 +151,7 @@ impl Broken {
 
     /// The latest load, which is zero but in profile 4.
     fn latest(&mut self, profile: u32) {
-        for state in [State::fresh(profile, 0, 77), base(profile, 5)] {
+        for state in [fresh(profile, 0, 77), base(profile, 5)] {
             if profile == 4 {
                 for bad in [1_000_001, 1_000_002, 1 << 20, 1 << 31, u32::MAX] {
                     self.add("latest load at most 1,000,000", state, |s| s.latest = bad);
@@ -171,7 +205,7 @@ impl Broken {
     }
 
     fn lengths(&mut self, profile: u32) {
-        for state in [State::fresh(profile, 1, 77), base(profile, 5)] {
+        for state in [fresh(profile, 1, 77), base(profile, 5)] {
             for queue in 0..4 {
                 for bad in [6, 7, 255, 1 << 32, (1 << 32) + 1, 1 << 63, u64::MAX] {
                     // The counts add up without that queue, of which nothing can be read.
@@ -260,9 +294,12 @@ impl Broken {
             broken.latest(profile);
             broken.clock_and_last(profile);
             broken.lengths(profile);
-            broken.counts(State::fresh(profile, 0, 77), &mut rng);
+            broken.counts(fresh(profile, 0, 77), &mut rng);
             for state in ledger_states(profile) {
                 broken.states.extend(ledgers::broken(&state));
+            }
+            for state in listed_states(profile) {
+                broken.states.extend(lists::broken(&state));
             }
             for length in 0..=5 {
                 broken.counts(base(profile, length), &mut rng);
@@ -305,7 +342,8 @@ fn hold_all_calls(state: &sys::State, origin: &dyn std::fmt::Display) {
 fn bases_are_sound() {
     for profile in PROFILES {
         let bases = (0..=5).map(|length| base(profile, length));
-        for state in bases.chain(ledger_states(profile)) {
+        let ledgers = ledger_states(profile);
+        for state in bases.chain(ledgers).chain(listed_states(profile)) {
             assert_eq!(broken_rules(&state), [""; 0]);
             for call in calls_at(profile, 78) {
                 hold(&state, &call, &"base");
@@ -337,7 +375,7 @@ fn ledgers_of_wild_numbers_are_refused_with_9() {
             }
         }
     }
-    assert!(refused > 4 * 8 * 40 * 7, "only {refused}");
+    assert!(refused > 5 * 8 * 40 * 7, "only {refused}");
 }
 
 #[test]
@@ -394,7 +432,7 @@ fn flags_above_1_are_refused_with_9() {
 /// The state of a refused make, and states of bytes that are all the same.
 #[test]
 fn states_of_no_sense_are_refused_with_9() {
-    let refused = sys::presscurlew_make(0, sys::DROP_OLDEST, 5);
+    let refused = sys::presscurlew_make(0, sys::DROP_OLDEST, sys::Levels::NONE, 5);
     assert_eq!(refused.state, sys::State::default());
     hold_all_calls(&refused.state, &"the all-zero state");
     let mut state = raw(&State::default());
@@ -414,6 +452,16 @@ fn states_of_no_sense_are_refused_with_9() {
             len: u64::from(fill),
             ats: [u64::from(fill); 40],
             ontimes: [fill; 40],
+        };
+        state.loads = sys::Loads {
+            len: u64::from(fill),
+            slots: [fill; 50],
+        };
+        state.levels = sys::Levels {
+            len: u64::from(fill),
+            wait: fill,
+            above: [fill; 8],
+            waits: [fill; 8],
         };
         state.profile = fill;
         state.oldway = fill;

@@ -2,9 +2,10 @@
 
 use std::fmt::Display;
 
-use presscurlew::{sys, Offer, WhenFull};
+use presscurlew::{sys, Gate, Level, Offer, WhenFull};
 use reference::burst;
 use reference::gate;
+use reference::levels::{Levels, Loads};
 use reference::log::{Record, RECORD_BYTES};
 use reference::rng::Rng;
 use reference::rules;
@@ -14,7 +15,9 @@ use reference::writer;
 pub use reference::gate::{Answer, Call};
 pub use reference::log::LogCall;
 
-pub const PROFILES: [u32; 4] = [1, 2, 3, 4];
+pub const PROFILES: [u32; 5] = [1, 2, 3, 4, 5];
+/// Those that a log can say: no record has room for profile 5's list.
+pub const LOGGED: [u32; 4] = [1, 2, 3, 4];
 /// What a gate does when a queue is full.
 pub const WAYS: [u32; 2] = [sys::DROP_OLDEST, sys::REFUSE_NEW];
 /// The same, as `Gate` has it.
@@ -24,6 +27,44 @@ pub const WHEN_FULL: [WhenFull; 2] = [WhenFull::DropOldest, WhenFull::RefuseNew]
 pub fn gates() -> impl Iterator<Item = (u32, u32)> {
     let profiles = PROFILES.into_iter();
     profiles.flat_map(|profile| WAYS.map(|way| (profile, way)))
+}
+
+/// A list of levels, up to 4, for profile 5; the others look at none.
+pub fn levels_of(profile: u32) -> Levels {
+    let listed = [
+        (300_000, 100_000),
+        (400_000, 200_000),
+        (500_000, 400_000),
+        (650_000, 1_000_000),
+    ];
+    match profile {
+        5 => Levels::of(50_000, &listed),
+        _ => Levels::default(),
+    }
+}
+
+/// A fresh state of the reference, in profile 5 with that list.
+pub fn fresh(profile: u32, way: u32, stamp: u32) -> State {
+    let (state, answer) = gate::make(profile, way, &levels_of(profile), stamp);
+    assert_eq!(answer, Answer::Ready, "profile {profile}, way {way}");
+    state
+}
+
+/// A `Gate` that is fresh, in profile 5 with that list.
+pub fn gate_of(profile: u32, way: WhenFull, stamp: u32) -> Gate {
+    let gate = match profile {
+        5 => {
+            let list = levels_of(profile);
+            let level = |(above, wait): &(u32, u32)| Level {
+                above: *above,
+                wait: *wait,
+            };
+            let levels: Vec<Level> = list.listed().iter().map(level).collect();
+            Gate::first_edition(list.wait, &levels, way, stamp)
+        }
+        _ => Gate::new(profile, way, stamp),
+    };
+    gate.expect("a good profile, and a good list")
 }
 
 pub const TIME_END: u64 = 1_000_000_000_000_000;
@@ -125,11 +166,30 @@ fn raw_ledger(ledger: &Ledger) -> sys::Ledger {
     }
 }
 
+/// A list of the reference as the archive has it.
+pub fn raw_levels(levels: &Levels) -> sys::Levels {
+    sys::Levels {
+        len: levels.len,
+        wait: levels.wait,
+        above: levels.above,
+        waits: levels.waits,
+    }
+}
+
+fn raw_loads(loads: &Loads) -> sys::Loads {
+    sys::Loads {
+        len: loads.len,
+        slots: loads.slots,
+    }
+}
+
 /// A state of the reference as the archive has it.
 pub fn raw(state: &State) -> sys::State {
     sys::State {
         queues: state.queues.each_ref().map(raw_queue),
         ledger: raw_ledger(&state.ledger),
+        loads: raw_loads(&state.loads),
+        levels: raw_levels(&state.levels),
         clock: sys::Clock {
             time: state.time,
             stamp: state.stamp,
@@ -368,6 +428,7 @@ pub fn archive_write(call: &LogCall, log: &mut [u8], at: usize) -> u32 {
             profile,
             oldway,
             stamp,
+            ..
         } => sys::write_make(profile, oldway, stamp, log, at),
         LogCall::On(Call::SampleWords {
             probes,

@@ -7,7 +7,7 @@ use crate::help::{
     calls_at, hold, hold_burst, raw, raw_reply, Answer, ACCEPTED_MOST, PROFILES, WAYS,
 };
 use crate::plain::{self, hold_alike, hold_alike_burst};
-use crate::runs::{self, Caller, Place, Tally, STYLES};
+use crate::runs::{self, run_list, Caller, Place, Tally, STYLES};
 use plainhost::State;
 use presscurlew::sys;
 use reference::log::RECORD_BYTES;
@@ -27,6 +27,8 @@ fn numbers(state: &mut State) -> Vec<Number<'_>> {
     let State {
         line,
         ledger,
+        loads,
+        levels,
         clock,
         last,
         counts,
@@ -35,7 +37,13 @@ fn numbers(state: &mut State) -> Vec<Number<'_>> {
         oldway,
         live,
     } = state;
-    let mut all = vec![Wide(&mut line.len), Wide(&mut ledger.len)];
+    let lengths = [
+        &mut line.len,
+        &mut ledger.len,
+        &mut loads.len,
+        &mut levels.len,
+    ];
+    let mut all: Vec<Number> = lengths.map(Wide).into();
     for packet in &mut line.packets {
         let sys::Packet {
             id,
@@ -49,6 +57,10 @@ fn numbers(state: &mut State) -> Vec<Number<'_>> {
     }
     all.extend(ledger.ats.iter_mut().map(Wide));
     all.extend(ledger.ontimes.iter_mut().map(Narrow));
+    all.extend(loads.slots.iter_mut().map(Narrow));
+    all.push(Narrow(&mut levels.wait));
+    let listed = levels.above.iter_mut().chain(&mut levels.waits);
+    all.extend(listed.map(Narrow));
     all.extend([&mut clock.time, &mut last.at].map(Wide));
     all.extend([&mut clock.stamp, &mut last.ontime, &mut last.admitted].map(Narrow));
     let sys::Counts {
@@ -142,10 +154,7 @@ fn any_burst(rng: &mut Rng, state: &state::State) -> (Vec<u8>, usize) {
 /// One run on both archives and on the reference, which `start` has come to.
 fn run(mut place: Place, start: (state::State, State), tally: &mut Tally, asked: &mut [u64; 2]) {
     let (mut state, mut plain) = start;
-    let mut caller = Caller {
-        rng: Rng::new(place.seed),
-        style: place.style,
-    };
+    let mut caller = Caller::new(place.seed, place.style);
     for call in 0..CALLS {
         place.call = call;
         if caller.rng.one_in(12) {
@@ -160,6 +169,7 @@ fn run(mut place: Place, start: (state::State, State), tally: &mut Tally, asked:
             let turn = hold_alike(&plain, &call, &place);
             assert_eq!(turn.reply, raw_reply(&answer), "{place}: on {state:?}");
             tally.count(&answer);
+            tally.note_move(state.level, next.level);
             (state, plain) = (next, turn.state);
         }
         assert_eq!(plain.parted(), Some(raw(&state)), "{place}");
@@ -187,9 +197,10 @@ fn runs_of(profile: u32) {
                     call: 0,
                 };
                 let stamp = (place.seed as u32).wrapping_mul(0x9E37_79B9);
+                let list = run_list(place.seed);
                 let start = (
-                    runs::made(profile, way, stamp),
-                    plain::made(profile, way, stamp),
+                    runs::made_with(profile, way, &list, stamp),
+                    plain::made_with(profile, way, &list, stamp),
                 );
                 run(place, start, &mut tally, &mut asked);
             }
@@ -203,6 +214,9 @@ fn runs_of(profile: u32) {
         assert!(full[way as usize] > 1_000, "way {way}: {tally:?}");
         // Of the damaged states some are sound still.
         assert!(asked.iter().all(|&count| count > 5_000), "{asked:?}");
+        if profile == 5 {
+            tally.hold_moves(0);
+        }
     }
 }
 
@@ -224,6 +238,11 @@ fn both_archives_in_profile_3() {
 #[test]
 fn both_archives_in_profile_4() {
     runs_of(4);
+}
+
+#[test]
+fn both_archives_in_profile_5() {
+    runs_of(5);
 }
 
 /// Runs that begin with few offers left, and soon with none.
