@@ -2,10 +2,11 @@
  * An older trailer abroad: profile 5, the first edition's state machine. The list that the radio maker gives has three
  * levels above level 0, each with the load that leads to it and its wait.
  *
- * A sample comes each 100 ms. The level goes up once the last ten samples reach a threshold, that is, a second after the
- * noise began, and at once to the highest level that all ten reach; it goes down once none of the last fifty reaches it,
- * after five seconds of quiet. Each line is a second: the load of its ten samples, the level after them, how long the
- * gate is then closed after a warning of 500 us, and how many warnings went in it. One is offered every 50 ms.
+ * A sample comes each 100 ms. The level goes up once the last ten samples reach a threshold, that is, a second after
+ * the noise began, and at once to the highest level that all ten reach; it goes down once none of the last fifty
+ * reaches it, after five seconds of quiet. Each line is a second: the load of its ten samples, the level after them,
+ * how long the gate is then closed after a warning of 500 us, and how many warnings went in it. One is offered every
+ * 50 ms.
  */
 #include <inttypes.h>
 #include <stdio.h>
