@@ -2,10 +2,11 @@
  * An older trailer abroad: profile 5, the first edition's state machine. The list that the radio maker gives has three
  * levels above level 0, each with the load that leads to it and its wait.
  *
- * A sample each 100 ms. The level goes up once the last ten samples reach a threshold, that is, a second after the noise
- * began, and at once to the highest level that all ten reach; it goes down once none of the last fifty reaches it, after
- * five seconds of quiet. Each line is a second: the loudest load of its ten samples, the level after them, how long the
- * gate is then closed after a warning of 500 us, and how many warnings went in it. A warning is offered every 50 ms.
+ * A sample comes each 100 ms. The level goes up once the last ten samples reach a threshold, that is, a second after
+ * the noise began, and at once to the highest level that all ten reach; it goes down once none of the last fifty
+ * reaches it, after five seconds of quiet. Each line is a second: the load of its ten samples, the level after them,
+ * how long the gate is then closed after a warning of 500 us, and how many warnings went in it. One is offered every
+ * 50 ms.
  */
 #include <inttypes.h>
 #include <stdio.h>
@@ -24,7 +25,7 @@ static uint32_t busy_in(uint32_t second) {
     return busy[second];
 }
 
-/* A second: two samples in ten of its steps, a warning offered and polled for in each. */
+/* A second of 20 steps: a sample in each other one, a warning offered and polled for in each. */
 static presscurlew_state play(presscurlew_state state, uint32_t second) {
     uint32_t start = second * STEPS * STEP_US, sent = 0;
 
