@@ -1,5 +1,5 @@
--- What a plan is told of profile 5's list and loads comes to the model's: in profile 5 the loads are noted and the level is that of
--- the loads as noted; in every other nothing is noted, and neither the level told nor the wait listed is looked at.
+-- What a plan is told of profile 5's list and loads comes to the model's: in profile 5 the loads are noted and the level is that
+-- of the loads as noted; in every other nothing is noted, and neither the level told nor the wait listed is looked at.
 use Prim.Native.Nat.{ℕ, _+_, _-_, _<_}
 use mathlib.Core.Path.{_≡_, refl, ap, ap₂, _∙_}
 use mathlib.Core.Bool.{true, false, cond}

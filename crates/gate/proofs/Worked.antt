@@ -183,7 +183,8 @@ closed-by-the-list = refl
 -- "A list that breaks a rule is refused at making with 15, BAD-LIST, after 1; it is judged for profile 5 alone": another profile
 -- is made, and has none of it
 made-with-a-list :
-    map (λ (profile : ℕ). makeState (makingOf profile 0 noLevels 7) .answer) (1 ∷ 5 ∷ 6 ∷ []) ≡ Ready ∷ Refused 15 ∷ Refused 1 ∷ []
+    map (λ (profile : ℕ). makeState (makingOf profile 0 noLevels 7) .answer) (1 ∷ 5 ∷ 6 ∷ [])
+    ≡ Ready ∷ Refused 15 ∷ Refused 1 ∷ []
 unfolding of-states
 made-with-a-list = refl
 

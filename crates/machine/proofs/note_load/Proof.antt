@@ -17,7 +17,8 @@ use Rattle.machine.proofs.note_load.Statement.{statement}
 use Rattle.machine.proofs.note_load.Tie as tie
 
 abbrev Inv-loop : tie.InvT-loop
-Inv-loop n slots₀ load more i₀ slots i = (i ≤ 49) × (length slots ≡ 50) × Stored (filled 50 0 (drop 1 (take 50 slots₀))) slots₀ i slots
+Inv-loop n slots₀ load more i₀ slots i =
+    (i ≤ 49) × (length slots ≡ 50) × Stored (filled 50 0 (drop 1 (take 50 slots₀))) slots₀ i slots
 
 abbrev μ-loop : tie.MeasureT-loop
 μ-loop n slots₀ load more i₀ slots i = 49 - i
@@ -25,16 +26,19 @@ abbrev μ-loop : tie.MeasureT-loop
 -- the places are still 50 once cleared
 long : (c : tie.After-slice-known2 Inv-loop μ-loop) → length (c .before .before .clear .last .1 .0) ≡ 50
 long c =
-    let s = c .before .before .before .before .before .before .before in
+    let e = c .before .before .before .before in
+    let s = e .before .before .before in
+    let n = s .args .n in
+    let xs = s .args .slots .now in
     ap length (c .before .before .clear .ensures)
-    ∙ length-filled (length (s .args .slots .now)) 0 (take (s .args .n) (s .args .slots .now))
-    (omega (arith, length-take-le (s .args .n) (s .args .slots .now) (omega (arith, c .before .before .before .before .if2 .taken, s .pre))))
+    ∙ length-filled (length xs) 0 (take n xs)
+    (omega (arith, length-take-le n xs (omega (arith, e .if2 .taken, s .pre))))
     ∙ s .pre
 
 -- past the loop all but the first have moved
 moved : (c : tie.After-loop Inv-loop μ-loop)
-    → (let s = c .before .before .before .before .before in (take 49 (c .before .loop .slots) ≡ drop 1 (take 50 (s .args .slots .now)))
-    × (length (c .before .loop .slots) ≡ 50))
+    → (let s = c .before .before .before .before .before in
+    (take 49 (c .before .loop .slots) ≡ drop 1 (take 50 (s .args .slots .now))) × (length (c .before .loop .slots) ≡ 50))
 moved c =
     let a = c .before in
     let s = a .before .before .before .before in
@@ -59,8 +63,8 @@ add-result c = search needs
 
 same-length : tie.Need-same-length Inv-loop μ-loop
 same-length c =
-    let a = c .before .before .before .before .before .before .before .args in
-    length-set (c .before .before .clear .last .1 .0) (a .n) (a .load) ∙ long c ∙ sym (c .before .before .before .before .before .before .before .pre)
+    let s = c .before .before .before .before .before .before .before in
+    length-set (c .before .before .clear .last .1 .0) (s .args .n) (s .args .load) ∙ long c ∙ sym (s .pre)
 
 returns-2 : tie.Need-returns-2 Inv-loop μ-loop
 unfolding notedIf
@@ -111,7 +115,8 @@ slice-write-slots-3 c = omega (arith, c .before .loop .inv .1)
 
 same-length-2 : tie.Need-same-length-2 Inv-loop μ-loop
 same-length-2 c =
-    length-set (c .before .loop .slots) 49 (c .before .before .before .before .before .args .load) ∙ c .before .loop .inv .1 ∙ sym (c .before .before .before .before .before .pre)
+    let s = c .before .before .before .before .before in
+    length-set (c .before .loop .slots) 49 (s .args .load) ∙ c .before .loop .inv .1 ∙ sym (s .pre)
 
 returns-3 : tie.Need-returns-3 Inv-loop μ-loop
 unfolding notedIf
