@@ -169,14 +169,16 @@ module _ (s : State) (load level : ℕ) (t : Tuning) (l : Loads) (h : LaidOut s)
         live = s .live;
       }
 
-  pub steers-listed : s .profile ≡ 5 → l ≡ held.packed (held.noted (held.loads (s .loads)) load)
-      → level ≡ levelAfter (thresholds (s .levels)) (held.loads l) (s .tuning .level) → Steers
+  pub steers-listed : (m : Loads) → s .profile ≡ 5 → m ≡ held.packed (held.noted (held.loads (s .loads)) load) → l ≡ m
+      → level ≡ levelAfter (thresholds (s .levels)) (held.loads m) (s .tuning .level) → Steers
   unfolding movedBy
-  steers-listed e f g =
+  steers-listed m e f u g =
       let xs = held.noted (held.loads (s .loads)) load in
       let as-noted : level ≡ levelAfter (thresholds (s .levels)) xs (s .tuning .level) =
-      g ∙ ap (λ (ns : List ℕ). levelAfter (thresholds (s .levels)) ns (s .tuning .level)) (ap held.loads f ∙ loads-packed xs) in
-      steers (k ∙ ap (λ (n : ℕ). tuned (s .profile) (s .tuning) n load) as-noted) (rw (eq-eqb (s .profile) 5 e) f)
+      g
+      ∙ ap (λ (ns : List ℕ). levelAfter (thresholds (s .levels)) ns (s .tuning .level))
+      (ap (λ (x : Loads). held.loads x) f ∙ loads-packed xs) in
+      steers (k ∙ ap (λ (n : ℕ). tuned (s .profile) (s .tuning) n load) as-noted) (rw (eq-eqb (s .profile) 5 e) (u ∙ f))
 
   pub steers-unlisted : (s .profile ≡ 5 → ⊥) → l ≡ s .loads → Steers
   unfolding tuned
