@@ -214,7 +214,7 @@ fn the_level_moves_the_least_needed() {
         let reached = |load| listed.iter().filter(|above| **above <= load).count() as u32;
         let due = state.level.clamp(reached(low), reached(high));
         assert_eq!(next.level, due, "{state:?}, {call:?}");
-        moved[due.cmp(&state.level) as i8 as usize % 3] += 1;
+        moved[(due.cmp(&state.level) as i8 + 1) as usize] += 1;
     }
     assert!(moved.iter().all(|&times| times > 1_000), "{moved:?}");
 }
