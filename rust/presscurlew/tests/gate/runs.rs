@@ -156,6 +156,15 @@ impl Caller {
     /// A sample whose load a level of the list may turn at. The loads come by stretches: without these ten in a row
     /// would seldom all be high, or fifty low.
     fn near_level(&mut self, list: &Levels, stamp: u32) -> Call {
+        if self.rng.one_in(12) {
+            // None: it is refused, and the stretch goes on.
+            let (busy, probes) = (1_001, 1_000);
+            return Call::SampleCount {
+                busy,
+                probes,
+                stamp,
+            };
+        }
         if self.planned.is_empty() {
             self.planned = lists::loads(list, 200, &mut self.rng);
         }
@@ -304,11 +313,14 @@ pub fn made_with(profile: u32, way: u32, list: &Levels, stamp: u32) -> State {
     state
 }
 
-/// The list of a run: a good one of any length, anything past its length. In the other profiles it makes no
-/// difference.
+/// The list of a run: a good one of any length, of eight levels if the seed is even, anything past its length. In the
+/// other profiles it makes no difference.
 pub fn run_list(seed: u64) -> Levels {
     let mut rng = Rng::new(seed);
-    let good = lists::good(&mut rng);
+    let mut good = lists::good(&mut rng);
+    while seed % 2 == 0 && good.len < 8 {
+        good = lists::good(&mut rng);
+    }
     lists::littered(&good, &mut rng)
 }
 

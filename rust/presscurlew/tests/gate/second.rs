@@ -223,7 +223,7 @@ fn crowded(rng: &mut Rng, profile: u32) -> Vec<Admission> {
 fn closed_is_the_smallest_wait() {
     let mut rng = Rng::new(0x5ec0);
     let mut bound = [0; 6];
-    for _ in 0..12_500 {
+    for _ in 0..15_000 {
         let profile = rng.pick(&PROFILES);
         let most = rules::on_time_max(profile).unwrap();
         let ontime = rng.pick(&[1, most / 2, most, most]);

@@ -399,9 +399,15 @@ fn any_offer(rng: &mut Rng) -> Offer {
     }
 }
 
-/// A sample by words as one by its count, any other call as it is.
-fn by_its_count(call: &LogCall) -> LogCall {
+/// What a record carries of a call: of a sample by words its count, of a make all but its list, of any other all.
+fn carried(call: &LogCall) -> LogCall {
     match call {
+        LogCall::Make {
+            profile,
+            oldway,
+            stamp,
+            ..
+        } => make(*profile, *oldway, *stamp),
         LogCall::On(Call::SampleWords {
             probes,
             words,
@@ -430,7 +436,7 @@ fn random_calls_there_and_back() {
         seen[number as usize] += 1;
         if number == 0 {
             let back = read(&Record::from_bytes(&written(&call)));
-            assert_eq!(back, Ok(by_its_count(&call)), "call {index}: {call:?}");
+            assert_eq!(back, Ok(carried(&call)), "call {index}: {call:?}");
         }
     }
     for (number, &times) in seen.iter().enumerate() {
