@@ -1,5 +1,5 @@
-// Which edition of the interface this archive has: a host with another header would read the state's bytes for
-// what they are not.
+// Which edition of the interface this archive has: a host with another header would read the state's
+// bytes for what they are not.
 ghost use mathlib.Core.Path.{_≡_};
 ghost use Rattle.host.specs.Edition.{version, layout};
 
