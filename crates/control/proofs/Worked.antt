@@ -4,19 +4,27 @@ use Prim.Native.Nat.{ℕ, _*_, _≤_}
 use mathlib.Core.Path.{_≡_, refl}
 use mathlib.Core.Bool.{true, false}
 use mathlib.Core.List.{List, [], _∷_, _++_, map}
+use lib.ListN.{replicate}
 use Rattle.rules.specs.Profiles.{within, reactiveOf, mostOntime, ontimeAllowed}
 use Rattle.rules.specs.Levels.{wantedBy, towards, waitBy}
 use Rattle.rules.specs.Duty.{smoothedOf, offsetOf, dutyOf}
 use Rattle.rules.specs.Wait.{adaptiveWait, startOf}
 use Rattle.rules.specs.Harmonised.{perMille, factorOf, harmonisedWait}
+use Rattle.packing.specs.Packing as packing
+use Rattle.machine.specs.declared.Levels.{Levels}
+use Rattle.machine.specs.declared.Loads.{Loads}
+use Rattle.machine.specs.Levels.{levelsOf, noLevels, thresholdAt, waitAt, rising, goodList, soundList, tidied, noneListed}
+use Rattle.machine.specs.Loads.{loadsOf, noLoads, packed, soundLoads, noneHeld}
+use Rattle.machine.specs.Moves.{leastFrom, greatestFrom, leastOf, lowOf, highOf, reaches, highestTo, levelAfter, movedBy}
 use Rattle.control.specs.declared.Tuning.{Tuning}
-use Rattle.control.specs.Control.{Control, controlOf, freshControl, noControl, pairingSound, latestSound}
-use Rattle.control.specs.Control.{soundControl, sampled}
-use Rattle.control.specs.Wait.{waitOf, closedAfter}
+use Rattle.control.specs.Control.{Control, controlOf, listKept, freshControl, noControl, pairingSound, latestSound}
+use Rattle.control.specs.Control.{topOf, listingSound, tuningSound, soundControl, tuned, sampled}
+use Rattle.control.specs.Wait.{waitOf, waitWith, closedAfter}
 use Rattle.control.specs.Owed.{spare, leastGap, second, quiet, claimsCeiling}
 use Rattle.control.proofs.Owed.{floors, all-keep, claimants-keep}
 
--- a control by its numbers: profile, level, duty, smoothed load, kept sample, whether one is kept, latest load
+-- a control by its numbers: profile, level, duty, smoothed load, kept sample, whether one is kept, latest load; with
+-- no list and no loads
 abbrev whole : (profile level duty smoothed kept pairing latest : ℕ) → Control
 whole profile level duty smoothed kept pairing latest =
     controlOf profile (record {
@@ -26,21 +34,39 @@ whole profile level duty smoothed kept pairing latest =
       kept = kept;
       pairing = pairing;
       latest = latest;
-    })
+    }) noLevels noLoads
 
 -- one without a latest load
 abbrev control : (profile level duty smoothed kept pairing : ℕ) → Control
 control profile level duty smoothed kept pairing = whole profile level duty smoothed kept pairing 0
 
+-- a list of two levels above level 0: reached at 30 % and 60 %, with waits of 60 ms, 100 ms and 1 s
+abbrev two : Levels
+two = levelsOf 2 60000 (300000 ∷ 600000 ∷ replicate 6 0) (100000 ∷ 1000000 ∷ replicate 6 0)
+
+-- a control of profile 5: its list, its level and its loads
+abbrev listed : Levels → (level : ℕ) → List ℕ → Control
+listed list level xs = controlOf 5 (control 5 level 600000 0 0 0 .tuning) list (packed xs)
+
 -- "A fresh state: .. level 0, duty 600,000, smoothed load 0, no sample kept"; "0 before any sample" (W-209)
 fresh-controls :
-    map freshControl (1 ∷ 2 ∷ 3 ∷ 4 ∷ [])
+    map (λ (p : ℕ). freshControl p two) (1 ∷ 2 ∷ 3 ∷ 4 ∷ [])
     ≡ whole 1 0 600000 0 0 0 0
     ∷ whole 2 0 600000 0 0 0 0
     ∷ whole 3 0 600000 0 0 0 0
     ∷ whole 4 0 600000 0 0 0 0
     ∷ []
+unfolding listKept
 fresh-controls = refl
+
+-- "a bad list with profile 1 is READY, and the state's list is zero" (reading 22); in profile 5 it is the list handed over,
+-- "unused room zero", and no loads
+fresh-with-a-list :
+    freshControl 5
+    (levelsOf 2 60000 (300000 ∷ 600000 ∷ 7 ∷ 7 ∷ 7 ∷ 7 ∷ 7 ∷ 7 ∷ []) (100000 ∷ 1000000 ∷ 7 ∷ 7 ∷ 7 ∷ 7 ∷ 7 ∷ 7 ∷ []))
+    ≡ listed two 0 []
+unfolding listKept tidied packed packing.filled
+fresh-with-a-list = refl
 
 -- "the all-zero, not live state"
 all-zero : noControl ≡ whole 0 0 0 0 0 0 0
@@ -48,10 +74,11 @@ all-zero = refl
 
 -- A sound control keeps all of the rules below; in each example the rest of the control is sound.
 unfoldable of-soundness : Type 0
-unfolding within pairingSound latestSound soundControl
+unfolding within pairingSound latestSound soundControl tuningSound topOf listingSound goodList rising soundList noneListed
+    soundLoads noneHeld packed packing.allAre packing.filled packing.padded
 of-soundness = Unit {0}
 
--- "profile 1 to 3"; "a sound state may have profile 4" (W-209)
+-- "profile 1 to 3"; "a sound state may have profile 4" (W-209), and 5 "and then has such a list" (W-213)
 sound-profiles :
     map (λ (p : ℕ). soundControl (control p 0 600000 0 0 0)) (0 ∷ 1 ∷ 2 ∷ 3 ∷ 4 ∷ 5 ∷ [])
     ≡ false ∷ true ∷ true ∷ true ∷ true ∷ false ∷ []
@@ -121,6 +148,41 @@ sound-latest-loads :
 unfolding of-soundness
 sound-latest-loads = refl
 
+-- "a level of it (which may pass 4)" (W-213): 0 to the last of its list
+sound-levels-of-a-list :
+    map (λ (level : ℕ). soundControl (listed two level (1 ∷ 1000000 ∷ []))) (0 ∷ 2 ∷ 3 ∷ [])
+    ≡ true ∷ true ∷ false ∷ []
+unfolding of-soundness
+sound-levels-of-a-list = refl
+
+-- "its last loads in order of coming, at most 50, unused room zero"; a load at most 1,000,000
+sound-loads-of-a-list :
+    map (λ (xs : List ℕ). soundControl (listed two 0 xs)) ((1000001 ∷ []) ∷ replicate 50 1 ∷ replicate 51 1 ∷ [])
+    ++ soundControl (controlOf 5 (listed two 0 [] .tuning) two (loadsOf 1 (1 ∷ 1 ∷ replicate 48 0)))
+    ∷ soundControl
+    (controlOf 5 (listed two 0 [] .tuning) (levelsOf 1 60000 (1 ∷ 2 ∷ replicate 6 0) (40000 ∷ replicate 7 0)) noLoads)
+    ∷ soundControl (listed noLevels 0 [])
+    ∷ []
+    ≡ false ∷ true ∷ false ∷ false ∷ false ∷ false ∷ []
+unfolding of-soundness
+sound-loads-of-a-list = refl
+
+-- "another profile's state has it zero": no list and no loads in profiles 1 to 4
+no-list-elsewhere :
+    map (λ (p : ℕ).
+    soundControl (controlOf p (listed two 0 [] .tuning) two noLoads)
+    ∷ soundControl (controlOf p (listed two 0 [] .tuning) noLevels (packed (0 ∷ [])))
+    ∷ soundControl (controlOf p (listed two 0 [] .tuning) noLevels noLoads)
+    ∷ [])
+    (1 ∷ 2 ∷ 3 ∷ 4 ∷ [])
+    ≡ (false ∷ false ∷ true ∷ [])
+    ∷ (false ∷ false ∷ true ∷ [])
+    ∷ (false ∷ false ∷ true ∷ [])
+    ∷ (false ∷ false ∷ true ∷ [])
+    ∷ []
+unfolding of-soundness
+no-list-elsewhere = refl
+
 -- odd, and sound by the letter: profiles 1, 2 and 4 with a duty and a smoothed load, profiles 3 and 4 with a level
 odd-but-sound :
     map soundControl
@@ -133,9 +195,15 @@ odd-but-sound :
 unfolding of-soundness
 odd-but-sound = refl
 
+-- what a list and its loads compute by
+unfoldable of-lists : Type 0
+unfolding listKept tidied packed packing.filled thresholdAt leastFrom greatestFrom leastOf lowOf highOf reaches highestTo
+    levelAfter movedBy
+of-lists = Unit {0}
+
 -- What a control is after a sample, and after each of several.
 unfoldable of-samples : Type 0
-unfolding within reactiveOf wantedBy towards smoothedOf offsetOf dutyOf sampled
+unfolding within reactiveOf wantedBy towards smoothedOf offsetOf dutyOf listKept tuned sampled
 of-samples = Unit {0}
 
 course : Control → (loads : List ℕ) → List Control
@@ -181,7 +249,7 @@ samples-by-each-table = refl
 -- "Level 0, full load, profile 1: four samples to reach level 4", and as many to come back
 levels-up-and-down :
     map (λ (k : Control). k .tuning .level)
-    (course (freshControl 1) (1000000 ∷ 1000000 ∷ 1000000 ∷ 1000000 ∷ 1000000 ∷ 0 ∷ 0 ∷ 0 ∷ 0 ∷ 0 ∷ []))
+    (course (freshControl 1 noLevels) (1000000 ∷ 1000000 ∷ 1000000 ∷ 1000000 ∷ 1000000 ∷ 0 ∷ 0 ∷ 0 ∷ 0 ∷ 0 ∷ []))
     ≡ 1 ∷ 2 ∷ 3 ∷ 4 ∷ 4 ∷ 3 ∷ 2 ∷ 1 ∷ 0 ∷ 0 ∷ []
 unfolding course
 levels-up-and-down = refl
@@ -192,7 +260,7 @@ rest t = t .duty ∷ t .smoothed ∷ t .kept ∷ t .pairing ∷ []
 
 profiles-1-and-2-change-no-more :
     (t : Tuning) (load : ℕ)
-    → map (λ (p : ℕ). rest (sampled (controlOf p t) load .tuning)) (1 ∷ 2 ∷ []) ≡ rest t ∷ rest t ∷ []
+    → map (λ (p : ℕ). rest (sampled (controlOf p t noLevels noLoads) load .tuning)) (1 ∷ 2 ∷ []) ≡ rest t ∷ rest t ∷ []
 unfolding of-samples rest
 profiles-1-and-2-change-no-more t load = refl
 
@@ -204,7 +272,7 @@ sample-kept-in-profile-3 level duty smoothed load = refl
 
 -- "Each even one, with the kept one, updates and clears the kept"
 samples-of-profile-3 :
-    course (freshControl 3) (400000 ∷ 800000 ∷ 100000 ∷ 300001 ∷ 500000 ∷ [])
+    course (freshControl 3 noLevels) (400000 ∷ 800000 ∷ 100000 ∷ 300001 ∷ 500000 ∷ [])
     ≡ control 3 0 600000 0 400000 1
     ∷ control 3 0 1046400 300000 0 0
     ∷ control 3 0 1046400 300000 100000 1
@@ -240,7 +308,7 @@ sample-of-profile-4 level duty smoothed kept pairing latest load = refl
 
 -- "the latest load": the last of several, also where it is 0
 samples-of-profile-4 :
-    course (freshControl 4) (700000 ∷ 1000000 ∷ 0 ∷ 620001 ∷ [])
+    course (freshControl 4 noLevels) (700000 ∷ 1000000 ∷ 0 ∷ 620001 ∷ [])
     ≡ whole 4 0 600000 0 0 0 700000
     ∷ whole 4 0 600000 0 0 0 1000000
     ∷ whole 4 0 600000 0 0 0 0
@@ -248,6 +316,18 @@ samples-of-profile-4 :
     ∷ []
 unfolding course
 samples-of-profile-4 = refl
+
+-- in profile 5 the level moves at once as far as is needed, and the loads are noted; nothing else changes (W-213, reading 22):
+-- nine full samples leave level 0, the tenth gives the top
+samples-of-profile-5 :
+    map (λ (k : Control). k .tuning .level) (course (freshControl 5 two) (replicate 10 1000000))
+    ≡ 0 ∷ 0 ∷ 0 ∷ 0 ∷ 0 ∷ 0 ∷ 0 ∷ 0 ∷ 0 ∷ 2 ∷ []
+unfolding course of-lists
+samples-of-profile-5 = refl
+
+sample-of-profile-5 : sampled (listed two 1 (5 ∷ 7 ∷ [])) 300000 ≡ listed two 1 (5 ∷ 7 ∷ 300000 ∷ [])
+unfolding of-samples of-lists
+sample-of-profile-5 = refl
 
 -- no other profile touches it: whatever the numbers
 profiles-1-to-3-keep-no-latest-load :
@@ -262,7 +342,7 @@ profiles-1-to-3-keep-no-latest-load level duty smoothed kept load = refl
 
 -- The wait, and how long it keeps the gate closed.
 unfoldable of-waits : Type 0
-unfolding within waitBy adaptiveWait perMille factorOf harmonisedWait startOf mostOntime waitOf quiet claimsCeiling
+unfolding within waitBy adaptiveWait perMille factorOf harmonisedWait startOf mostOntime waitWith quiet claimsCeiling
 of-waits = Unit {0}
 
 -- "The wait in profiles 1 and 2 is the current level's": whatever the duty and the on-time
@@ -321,6 +401,15 @@ waits-of-profile-4 :
 unfolding of-waits
 waits-of-profile-4 level duty smoothed = refl
 
+-- in profile 5 the wait is that of the list for the level, whatever the on-time, and runs from the end (W-213)
+waits-of-profile-5 :
+    map (λ (level : ℕ). waitOf (listed two level []) 1000) (0 ∷ 1 ∷ 2 ∷ [])
+    ++ closedAfter (listed two 1 []) 1000
+    ∷ []
+    ≡ 60000 ∷ 100000 ∷ 1000000 ∷ 101000 ∷ []
+unfolding of-waits waitAt
+waits-of-profile-5 = refl
+
 -- "In profiles 1 and 2 the wait now runs from admission plus that packet's on-time. Profile 3 stays as it is" (W-202)
 
 closed-in-profiles-1-and-2 :
@@ -348,20 +437,22 @@ unfolding of-waits
 closed-in-profile-4 = refl
 
 -- "its floor reads 1,001,000 µs for profile 1, 1,000,500 for profile 2 and 1,000,000 for profile 3" (W-202); "Its floor is
--- 1,004,000 µs." (W-209)
-quiet-times : map quiet (1 ∷ 2 ∷ 3 ∷ 4 ∷ []) ≡ 1001000 ∷ 1000500 ∷ 1000000 ∷ 1004000 ∷ []
+-- 1,004,000 µs." (W-209); "the floor is 1,001,000 µs" (W-213)
+quiet-times : map quiet (1 ∷ 2 ∷ 3 ∷ 4 ∷ 5 ∷ []) ≡ 1001000 ∷ 1000500 ∷ 1000000 ∷ 1004000 ∷ 1001000 ∷ []
 unfolding of-waits
 quiet-times = refl
 
-floors-by-profile : (quiet 1 ≡ 1001000) × (quiet 2 ≡ 1000500) × (quiet 3 ≡ 1000000) × (quiet 4 ≡ 1004000)
+floors-by-profile :
+    (quiet 1 ≡ 1001000) × (quiet 2 ≡ 1000500) × (quiet 3 ≡ 1000000) × (quiet 4 ≡ 1004000) × (quiet 5 ≡ 1001000)
 floors-by-profile = floors
 
 -- "100 x air time admitted ≤ 3 W + 400,000"; "gaps of at least 25,000 µs", "1,000,000 µs" (W-207)
 spare-gap-second : spare ∷ leastGap ∷ second ∷ [] ≡ 400000 ∷ 25000 ∷ 1000000 ∷ []
 spare-gap-second = refl
 
--- "Demand 3's ceiling stands" (W-202); "01's ceiling isn't claimed for it" (W-209): profile 4 may admit 4,000 µs every 29,000
-ceiling-claimed : map claimsCeiling (0 ∷ 1 ∷ 2 ∷ 3 ∷ 4 ∷ []) ≡ false ∷ true ∷ true ∷ true ∷ false ∷ []
+-- "Demand 3's ceiling stands" (W-202); "01's ceiling isn't claimed for it" (W-209): profile 4 may admit 4,000 µs every 29,000;
+-- in profile 5 "01's ceiling holds" (W-213)
+ceiling-claimed : map claimsCeiling (0 ∷ 1 ∷ 2 ∷ 3 ∷ 4 ∷ 5 ∷ 6 ∷ []) ≡ false ∷ true ∷ true ∷ true ∷ false ∷ true ∷ false ∷ []
 unfolding of-waits
 ceiling-claimed = refl
 

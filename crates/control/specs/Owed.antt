@@ -2,7 +2,8 @@
 -- on-times that it allows.
 use Prim.Native.Nat.{ℕ, _+_, _*_, _≤_}
 use mathlib.Core.Path.{_≡_}
-use mathlib.Core.Bool.{Bool, true}
+use mathlib.Core.Bool.{Bool, true, _||_}
+use lib.Dec.{eqb}
 use Rattle.rules.specs.Profiles.{within, limitsOf, mostOntime, ontimeAllowed}
 use Rattle.rules.specs.Wait.{startOf}
 use Rattle.control.specs.Control.{Control, soundControl}
@@ -26,14 +27,17 @@ unfoldable pub quiet : (profile : ℕ) → ℕ
 quiet profile = startOf profile (mostOntime profile) + limitsOf profile .mostwait
 
 -- "its floor reads 1,001,000 µs for profile 1, 1,000,500 for profile 2 and 1,000,000 for profile 3" (document
--- 02, W-202); of profile 4 "Its floor is 1,004,000 µs." (W-209)
+-- 02, W-202); of profile 4 "Its floor is 1,004,000 µs." (W-209), of profile 5 "the floor is 1,001,000 µs"
+-- (W-213)
 abbrev pub Floors : Type 0
-Floors = (quiet 1 ≡ 1001000) × (quiet 2 ≡ 1000500) × (quiet 3 ≡ 1000000) × (quiet 4 ≡ 1004000)
+Floors =
+    (quiet 1 ≡ 1001000) × (quiet 2 ≡ 1000500) × (quiet 3 ≡ 1000000) × (quiet 4 ≡ 1004000)
+    × (quiet 5 ≡ 1001000)
 
 -- the profiles of which "Demand 3's ceiling" is claimed; of profile 4, "01's ceiling isn't claimed for it"
--- (document 02, W-209)
+-- (document 02, W-209); of profile 5 "01's ceiling holds" (W-213)
 unfoldable pub claimsCeiling : (profile : ℕ) → Bool
-claimsCeiling profile = within 1 3 profile
+claimsCeiling profile = within 1 3 profile || eqb profile 5
 
 -- "State what all four profiles have in common once." (document 02, W-209): every profile owes this, whatever
 -- its rule
@@ -56,7 +60,7 @@ pub record KeepsCeiling (k : Control) (ontime : ℕ) : Type 0 where
 abbrev pub Allowed : Control → (ontime : ℕ) → Type 0
 Allowed k ontime = (soundControl k ≡ true) × (ontimeAllowed (k .profile) ontime ≡ true)
 
--- all four profiles owe what they have in common
+-- all profiles owe what they have in common
 abbrev pub AllKeep : Type 0
 AllKeep = (k : Control) (ontime : ℕ) → Allowed k ontime → Keeps k ontime
 

@@ -1,12 +1,18 @@
 // What samples steer: how it starts, whether it is sound, what a sample does to it, how long it keeps the
 // gate closed.
 ghost use mathlib.Core.Path.{_≡_};
-ghost use mathlib.Core.Bool.{true};
+ghost use mathlib.Core.Bool.{_&&_};
+ghost use lib.Dec.{eqb};
 ghost use Prim.Native.Nat.{_≤_};
 ghost use Rattle.rules.specs.Profiles.{profile3, fullLoad};
-ghost use Rattle.control.specs.Control.{controlOf, freshTuning, noTuning, latestSound, soundControl};
-ghost use Rattle.control.specs.Control.{sampled};
-ghost use Rattle.control.specs.Wait.{waitOf, closedAfter};
+ghost use Rattle.machine.specs.Levels.{badList};
+ghost use Rattle.machine.specs.Loads.{loadsOf};
+ghost use Rattle.control.specs.Control.{controlOf, freshTuning, noTuning, latestSound, topOf};
+ghost use Rattle.control.specs.Control.{tuningSound, listingSound, soundControl, Steerable};
+ghost use Rattle.control.specs.Control.{listKept, tuned};
+ghost use Rattle.control.specs.Wait.{waitWith, closedWith};
+use machine::Levels;
+use machine::Loads;
 
 // What samples change. `pairing` is 1 while a sample is kept, else 0; `latest` is the latest load in profile
 // 4, else 0.
@@ -58,14 +64,24 @@ fn is_latest_sound(profile: u32, latest: u32) -> bool
     latest == 0
 }
 
-// Whether what samples steer is within its limits.
-pub fn is_sound(profile: u32, t: Tuning) -> bool
-    ensures { λ r. ⌜ r ≡ soundControl (controlOf profile t) ⌝ }
+// The highest level of a profile: its list's in profile 5.
+fn top_of(profile: u32, listed: usize) -> usize
+    ensures { λ r. ⌜ r ≡ topOf profile listed ⌝ }
+{
+    if profile == rules::LISTED {
+        return listed;
+    }
+    rules::TOP_LEVEL as usize
+}
+
+// Whether what samples change is within its limits, beside a list of so many levels.
+pub fn is_tuning_sound(profile: u32, t: Tuning, listed: usize) -> bool
+    ensures { λ r. ⌜ r ≡ tuningSound profile listed t ⌝ }
 {
     if !rules::lies_within(rules::FIRST_PROFILE, rules::LAST_PROFILE, profile) {
         return false;
     }
-    if rules::TOP_LEVEL < t.level {
+    if top_of(profile, listed) < t.level as usize {
         return false;
     }
     if !rules::lies_within(
@@ -92,11 +108,58 @@ pub fn is_sound(profile: u32, t: Tuning) -> bool
     }
 }
 
-// What is steered after a sample.
-pub fn tuning_after(profile: u32, t: Tuning, load: u32) -> Tuning
-    requires { ⌜ soundControl (controlOf profile t) ≡ true ⌝ }
+// Whether a list of n levels and so many loads are sound in profile 5, and nothing in another.
+pub fn is_listing_sound(profile: u32, levels: Levels, held: usize, slots: &[u32]) -> bool
+    ensures { λ r. ⌜ r ≡ listingSound profile levels (loadsOf held (now (slots .entry))) ⌝ }
+{
+    if profile == rules::LISTED {
+        if !levels.is_sound() {
+            return false;
+        }
+        return machine::are_loads_sound(held, slots);
+    }
+    if !levels.is_none() {
+        return false;
+    }
+    machine::are_loads_none(held, slots)
+}
+
+// Whether what samples steer is sound.
+pub fn is_sound(profile: u32, t: Tuning, levels: Levels, loads: Loads) -> bool
+    ensures { λ r. ⌜ r ≡ soundControl (controlOf profile t levels loads) ⌝ }
+{
+    if !is_tuning_sound(profile, t, levels.len) {
+        return false;
+    }
+    let slots = loads.slots;
+    is_listing_sound(profile, levels, loads.len, &slots)
+}
+
+// Whether a make is refused for its list: in profile 5 alone.
+pub fn is_list_refused(profile: u32, list: Levels) -> bool
+    ensures { λ r. ⌜ r ≡ (eqb profile 5 && badList list) ⌝ }
+{
+    if profile != rules::LISTED {
+        return false;
+    }
+    !list.is_good()
+}
+
+// The list that a make leaves in the state.
+pub fn list_kept(profile: u32, list: Levels) -> Levels
+    ensures { λ r. ⌜ r ≡ listKept profile list ⌝ }
+{
+    if profile != rules::LISTED {
+        return Levels::none();
+    }
+    list.tidy()
+}
+
+// What samples change after a sample; `moved` is the level that its loads move profile 5's to.
+pub fn tuning_after(profile: u32, t: Tuning, moved: u32, load: u32) -> Tuning
+    requires { ⌜ Steerable profile t ⌝ }
     requires { ⌜ load ≤ fullLoad ⌝ }
-    ensures { λ r. ⌜ controlOf profile r ≡ sampled (controlOf profile t) load ⌝ }
+    ensures { λ r. ⌜ r ≡ tuned profile t moved load ⌝ }
 {
     let mut next = t;
     if rules::lies_within(rules::FIRST_PROFILE, rules::LAST_REACTIVE, profile) {
@@ -107,6 +170,10 @@ pub fn tuning_after(profile: u32, t: Tuning, load: u32) -> Tuning
     }
     if profile == rules::HARMONISED {
         next.latest = load;
+        return next;
+    }
+    if profile == rules::LISTED {
+        next.level = moved;
         return next;
     }
     if t.pairing == 1 {
@@ -122,27 +189,28 @@ pub fn tuning_after(profile: u32, t: Tuning, load: u32) -> Tuning
     next
 }
 
-// The wait of a profile, by the on-time of the last admission.
-pub fn wait(profile: u32, t: Tuning, ontime: u32) -> u32
-    requires { ⌜ soundControl (controlOf profile t) ≡ true ⌝ }
+// The wait of a profile, by the on-time of the last admission; `listed` is that of profile 5's list.
+pub fn wait(profile: u32, t: Tuning, listed: u32, ontime: u32) -> u32
+    requires { ⌜ Steerable profile t ⌝ }
     requires { ⌜ ontime ≤ profile3 .limits .ontime ⌝ }
-    ensures { λ r. ⌜ r ≡ waitOf (controlOf profile t) ontime ⌝ }
+    ensures { λ r. ⌜ r ≡ waitWith profile t listed ontime ⌝ }
 {
     match profile {
         1 => rules::Profile1::constants().wait(t.level),
         2 => rules::Profile2::constants().wait(t.level),
         3 => rules::adaptive_wait(ontime, t.duty),
-        _ => rules::harmonised_wait(ontime, t.latest),
+        4 => rules::harmonised_wait(ontime, t.latest),
+        _ => listed,
     }
 }
 
 // How long after an admission the gate stays closed.
-pub fn closed_after(profile: u32, t: Tuning, ontime: u32) -> u64
-    requires { ⌜ soundControl (controlOf profile t) ≡ true ⌝ }
+pub fn closed_after(profile: u32, t: Tuning, listed: u32, ontime: u32) -> u64
+    requires { ⌜ Steerable profile t ⌝ }
     requires { ⌜ ontime ≤ profile3 .limits .ontime ⌝ }
-    ensures { λ r. ⌜ r ≡ closedAfter (controlOf profile t) ontime ⌝ }
+    ensures { λ r. ⌜ r ≡ closedWith profile t listed ontime ⌝ }
 {
     let start = rules::wait_start(profile, ontime) as u64;
-    let wait = wait(profile, t, ontime) as u64;
+    let wait = wait(profile, t, listed, ontime) as u64;
     start + wait
 }

@@ -1,7 +1,7 @@
 -- The last loads (document 02, W-213): "its last loads in order of coming, at most 50, unused room zero".
 use Prim.Native.Nat.{ℕ, _-_, _≤_}
 use mathlib.Core.Path.{_≡_}
-use mathlib.Core.Bool.{Bool, true, _&&_}
+use mathlib.Core.Bool.{Bool, true, cond, _&&_}
 use mathlib.Core.List.{List, [], _∷_, _++_}
 use lib.Dec.{eqb}
 use lib.ListN.{length, take, drop, replicate}
@@ -36,6 +36,10 @@ noted xs load = lastOf mostLoads (xs ++ (load ∷ []))
 -- loads in their room, "unused room zero"
 unfoldable pub packed : List ℕ → Loads
 packed xs = loadsOf (length xs) (filled mostLoads 0 xs)
+
+-- a load noted, or none where `more` is 0
+unfoldable pub notedIf : (more load : ℕ) → Loads → Loads
+notedIf more load l = cond (eqb more 0) l (packed (noted (loads l) load))
 
 -- sound loads
 unfoldable pub soundLoads : Loads → Bool

@@ -1,14 +1,17 @@
 // The first edition's state machine: its list of levels, its last loads, the level that a sample leaves, and
 // the wait of a level (document 02, W-213). What reads numbers takes them as slices, so that a caller lends
-// its arrays where they lie; methods do the same for the structs. What is public answers for every input.
+// its arrays where they lie; methods do the same for the structs. What is public answers for every input, but
+// for `note_load`, which writes and asks for the 50 places that a struct has.
 ghost use mathlib.Core.Path.{_≡_};
 ghost use Prim.Native.Nat.{_≤_, _-_, min, max};
 ghost use lib.ListN.{length, take};
+ghost use lib.Dec.{eqb};
 ghost use Rattle.rules.specs.Profiles.{within};
 ghost use Rattle.packing.specs.Packing.{allAre, filled, isUnused};
 ghost use Rattle.machine.specs.Levels.{listed, levelsOf, thresholds, waitAt, waitOf, rising};
 ghost use Rattle.machine.specs.Levels.{goodList, soundList, tidied, noneListed, noLevels};
 ghost use Rattle.machine.specs.Loads.{loads, loadsOf, noted, packed, soundLoads, noneHeld, noLoads};
+ghost use Rattle.machine.specs.Loads.{mostLoads, notedIf};
 ghost use Rattle.machine.specs.Moves.{leastOf, greatestOf, lowOf, highOf, highest};
 ghost use Rattle.machine.specs.Moves.{levelAfter, movedBy};
 
@@ -74,9 +77,10 @@ fn greater(a: u32, b: u32) -> u32
     if a <= b { b } else { a }
 }
 
-// Whether all numbers are 0. All are read, with no way out before the end, so that many are read at once.
-pub fn are_zero(xs: &[u32]) -> bool
-    ensures { λ r. ⌜ r ≡ allAre isUnused (now (xs .entry)) ⌝ }
+// The bits of all numbers together. All are read, with no way out before the end, so that many are read at
+// once.
+fn bits_of(xs: &[u32]) -> u32
+    ensures { λ r. ⌜ eqb r 0 ≡ allAre isUnused (now (xs .entry)) ⌝ }
 {
     let mut bits: u32 = 0;
     let mut i: usize = 0;
@@ -84,7 +88,14 @@ pub fn are_zero(xs: &[u32]) -> bool
         bits = bits | xs[i];
         i += 1;
     }
-    bits == 0
+    bits
+}
+
+// Whether all numbers are 0.
+pub fn are_zero(xs: &[u32]) -> bool
+    ensures { λ r. ⌜ r ≡ allAre isUnused (now (xs .entry)) ⌝ }
+{
+    bits_of(xs) == 0
 }
 
 // Whether all numbers lie within two limits.
@@ -200,22 +211,6 @@ pub fn is_list_sound<'a>(n: usize, own: u32, above: &'a [u32], waits: &'a [u32])
     are_zero(&waits[n..])
 }
 
-// Whether there is no list, as in other profiles.
-pub fn is_list_none<'a>(n: usize, own: u32, above: &'a [u32], waits: &'a [u32]) -> bool
-    ensures { λ r. ⌜ r ≡ noneListed (levelsOf n own (now (above .entry)) (now (waits .entry))) ⌝ }
-{
-    if n != 0 {
-        return false;
-    }
-    if own != 0 {
-        return false;
-    }
-    if !are_zero(above) {
-        return false;
-    }
-    are_zero(waits)
-}
-
 // The wait of a level of n; one that is not of the list waits the longest.
 pub fn wait(n: usize, own: u32, waits: &[u32], level: u32) -> u32
     ensures { λ r. ⌜ r ≡ waitAt own (listed n (now (waits .entry))) level ⌝ }
@@ -253,6 +248,29 @@ pub fn are_loads_none(n: usize, slots: &[u32]) -> bool
         return false;
     }
     are_zero(slots)
+}
+
+// A load noted behind n others, in their place, unless `more` is 0; of 50 the oldest goes. How many there are
+// then.
+pub fn note_load(n: usize, slots: &mut [u32], load: u32, more: usize) -> usize
+    requires { ⌜ length (now slots) ≡ mostLoads ⌝ }
+    ensures { λ r. ⌜ loadsOf r (now (slots .exit)) ≡ notedIf more load (loadsOf n (now (slots .entry))) ⌝ }
+{
+    if more == 0 {
+        return n;
+    }
+    if n < 50 {
+        clear(n, slots);
+        slots[n] = load;
+        return n + 1;
+    }
+    let mut i: usize = 0;
+    while i < 49 {
+        slots[i] = slots[i + 1];
+        i += 1;
+    }
+    slots[49] = load;
+    50
 }
 
 // The least of the last 10 of n loads, 0 before there are ten.
@@ -336,13 +354,19 @@ impl Levels {
         is_list_sound(self.len, self.wait, &above, &waits)
     }
 
-    // Whether there is no list.
+    // Whether there is no list, as in other profiles. It is read number by number and not lent, so that a
+    // caller's is read where it lies.
     pub fn is_none(self) -> bool
         ensures { λ r. ⌜ r ≡ noneListed self ⌝ }
     {
         let above = self.above;
         let waits = self.waits;
-        is_list_none(self.len, self.wait, &above, &waits)
+        let low = (above[0] | above[1] | above[2] | above[3])
+            | (waits[0] | waits[1] | waits[2] | waits[3]);
+        let high = (above[4] | above[5] | above[6] | above[7])
+            | (waits[4] | waits[5] | waits[6] | waits[7]);
+        let bits = (low | high) | self.wait;
+        self.len as u64 | bits as u64 == 0
     }
 
     // The list as a state keeps it: the levels that it has, and zeros behind them.
@@ -430,20 +454,9 @@ impl Loads {
     pub fn note(self, load: u32) -> Loads
         ensures { λ r. ⌜ r ≡ packed (noted (loads self) load) ⌝ }
     {
-        let n = self.len;
         let mut slots = self.slots;
-        if n < 50 {
-            clear(n, &mut slots);
-            slots[n] = load;
-            return Loads { len: n + 1, slots };
-        }
-        let mut i: usize = 0;
-        while i < 49 {
-            slots[i] = slots[i + 1];
-            i += 1;
-        }
-        slots[49] = load;
-        Loads { len: 50, slots }
+        let len = note_load(self.len, &mut slots, load, 1);
+        Loads { len, slots }
     }
 
     // The least of the last 10, 0 before there are ten.

@@ -13,7 +13,8 @@ use borrow.Author.Tests.{ne-eqb, eqb-true, eqb-false}
 use Rattle.rules.proofs.Cases.{split}
 use Rattle.packing.specs.Packing.{allAre, isUnused}
 
-or-none : (a b : ℕ) → eqb (bitOr a b) 0 ≡ (eqb a 0 && eqb b 0)
+-- bits together are zero if both are
+pub or-none : (a b : ℕ) → eqb (bitOr a b) 0 ≡ (eqb a 0 && eqb b 0)
 or-none a b =
     split (eqb a 0)
     (λ e. rw (eqb-true a 0 e, or-zero-l b))

@@ -10,7 +10,7 @@ use lib.ListN.{length, getD}
 use lib.ListN.{replicate}
 use Rattle.rules.specs.declared.Sample.the-variants.{Busy, Bad}
 use Rattle.rules.specs.Tests.{allOf}
-use Rattle.rules.specs.Profiles.{profile3, profile4, fullLoad, topLevel, within, isProfile, isReactive}
+use Rattle.rules.specs.Profiles.{profile3, profile4, fullLoad, topLevel, within, isProfile, isReactive, isUnlisted}
 use Rattle.rules.specs.Profiles.{byProfile, reactiveOf, limitsOf, mostOntime, ontimeAllowed, dutyAllowed}
 use Rattle.rules.specs.Profiles.{lifetimeAllowed, lastPriority, room, mostOffers}
 use Rattle.rules.specs.Clock.{stamps, stepOf, goesBack, endOfTime, passesEnd}
@@ -25,24 +25,30 @@ use Rattle.rules.specs.Table.{values, factorTable}
 use Rattle.rules.specs.Readings.{readings}
 use Rattle.rules.proofs.Readings.{readings-hold}
 
--- "a profile outside 1 to 4" (W-209); "reactive" are 1 and 2
+-- "a profile outside 1 to 5" (W-213); "reactive" are 1 and 2; 5 comes with a list
 
-profiles : map isProfile (0 ∷ 1 ∷ 2 ∷ 3 ∷ 4 ∷ 5 ∷ []) ≡ false ∷ true ∷ true ∷ true ∷ true ∷ false ∷ []
+profiles : map isProfile (0 ∷ 1 ∷ 2 ∷ 3 ∷ 4 ∷ 5 ∷ 6 ∷ []) ≡ false ∷ true ∷ true ∷ true ∷ true ∷ true ∷ false ∷ []
 unfolding within
 profiles = refl
+
+unlisted-profiles : map isUnlisted (0 ∷ 1 ∷ 2 ∷ 3 ∷ 4 ∷ 5 ∷ []) ≡ false ∷ true ∷ true ∷ true ∷ true ∷ false ∷ []
+unfolding within
+unlisted-profiles = refl
 
 reactive-profiles : map isReactive (0 ∷ 1 ∷ 2 ∷ 3 ∷ 4 ∷ []) ≡ false ∷ true ∷ true ∷ false ∷ false ∷ []
 unfolding within
 reactive-profiles = refl
 
--- a choice by a profile's number; a number that is no profile's is refused first, and goes with 4 here
+-- a choice by a profile's number; a number that is no profile's is refused first, and goes with 5 here
 choice-by-profile :
-    map (λ (p : ℕ). byProfile {A = ℕ} p 10 20 30 40) (1 ∷ 2 ∷ 3 ∷ 4 ∷ 0 ∷ 5 ∷ []) ≡ 10 ∷ 20 ∷ 30 ∷ 40 ∷ 40 ∷ 40 ∷ []
+    map (λ (p : ℕ). byProfile {A = ℕ} p 10 20 30 40 50) (1 ∷ 2 ∷ 3 ∷ 4 ∷ 5 ∷ 0 ∷ 6 ∷ [])
+    ≡ 10 ∷ 20 ∷ 30 ∷ 40 ∷ 50 ∷ 50 ∷ 50 ∷ []
 choice-by-profile = refl
 
--- "On-time allowed (µs)": "1 to 1,000", "1 to 500", "1 to 4,000"; "on-time 1 to 4,000" in profile 4 (W-209)
+-- "On-time allowed (µs)": "1 to 1,000", "1 to 500", "1 to 4,000"; "on-time 1 to 4,000" in profile 4 (W-209),
+-- "On-time is 1 to 1,000" in profile 5 (W-213)
 
-longest-on-times : map mostOntime (1 ∷ 2 ∷ 3 ∷ 4 ∷ 0 ∷ []) ≡ 1000 ∷ 500 ∷ 4000 ∷ 4000 ∷ 4000 ∷ []
+longest-on-times : map mostOntime (1 ∷ 2 ∷ 3 ∷ 4 ∷ 5 ∷ 0 ∷ []) ≡ 1000 ∷ 500 ∷ 4000 ∷ 4000 ∷ 1000 ∷ 1000 ∷ []
 unfolding mostOntime
 longest-on-times = refl
 
@@ -62,23 +68,30 @@ on-times-of-profile-4 : map (ontimeAllowed 4) (0 ∷ 1 ∷ 4000 ∷ 4001 ∷ [])
 unfolding ontimeAllowed mostOntime within
 on-times-of-profile-4 = refl
 
-on-times-of-no-profile : map (ontimeAllowed 0) (0 ∷ 1 ∷ 4000 ∷ 4001 ∷ []) ≡ false ∷ true ∷ true ∷ false ∷ []
+on-times-of-profile-5 : map (ontimeAllowed 5) (0 ∷ 1 ∷ 1000 ∷ 1001 ∷ []) ≡ false ∷ true ∷ true ∷ false ∷ []
+unfolding ontimeAllowed mostOntime within
+on-times-of-profile-5 = refl
+
+on-times-of-no-profile : map (ontimeAllowed 0) (0 ∷ 1 ∷ 1000 ∷ 1001 ∷ []) ≡ false ∷ true ∷ true ∷ false ∷ []
 unfolding ontimeAllowed mostOntime within
 on-times-of-no-profile = refl
 
--- the least and the longest wait of profiles 1 to 4
+-- the least and the longest wait of each profile
 
-least-waits : map (λ (p : ℕ). limitsOf p .leastwait) (1 ∷ 2 ∷ 3 ∷ 4 ∷ []) ≡ 100000 ∷ 50000 ∷ 25000 ∷ 25000 ∷ []
+least-waits :
+    map (λ (p : ℕ). limitsOf p .leastwait) (1 ∷ 2 ∷ 3 ∷ 4 ∷ 5 ∷ []) ≡ 100000 ∷ 50000 ∷ 25000 ∷ 25000 ∷ 40000 ∷ []
 least-waits = refl
 
-longest-waits : map (λ (p : ℕ). limitsOf p .mostwait) (1 ∷ 2 ∷ 3 ∷ 4 ∷ []) ≡ 1000000 ∷ 1000000 ∷ 1000000 ∷ 1000000 ∷ []
+longest-waits :
+    map (λ (p : ℕ). limitsOf p .mostwait) (1 ∷ 2 ∷ 3 ∷ 4 ∷ 5 ∷ [])
+    ≡ 1000000 ∷ 1000000 ∷ 1000000 ∷ 1000000 ∷ 1000000 ∷ []
 longest-waits = refl
 
 -- "In profiles 1 and 2 the wait now runs from admission plus that packet's on-time. Profile 3 stays as it is" (W-202); in profile
--- 4 "It runs from the end of transmission." (W-209)
+-- 4 "It runs from the end of transmission." (W-209), in profile 5 "Waits run from the end" (W-213)
 start-of-the-wait :
-    map (λ (p : ℕ). startOf p 400) (1 ∷ 2 ∷ 3 ∷ 4 ∷ []) ++ startOf 1 1000 ∷ startOf 2 1 ∷ startOf 3 4000 ∷ startOf 4 4000 ∷ []
-    ≡ 400 ∷ 400 ∷ 0 ∷ 400 ∷ 1000 ∷ 1 ∷ 0 ∷ 4000 ∷ []
+    map (λ (p : ℕ). startOf p 400) (1 ∷ 2 ∷ 3 ∷ 4 ∷ 5 ∷ []) ++ startOf 1 1000 ∷ startOf 2 1 ∷ startOf 3 4000 ∷ startOf 4 4000 ∷ []
+    ≡ 400 ∷ 400 ∷ 0 ∷ 400 ∷ 400 ∷ 1000 ∷ 1 ∷ 0 ∷ 4000 ∷ []
 unfolding startOf
 start-of-the-wait = refl
 

@@ -1,163 +1,41 @@
--- One test after the other: the first that fails makes the rules false, and the last is what is left of them.
-use mathlib.Core.Path.{_≡_, sym, _∙_}
-use mathlib.Core.Bool.{true, false, and-true}
-use Prim.Native.Nat.{ℕ, _≤_, _<_}
-use native.Mathlib.Omega.{arith}
-use lib.Dec.{eqb}
-use borrow.Author.Tests.{not-true, not-false, le-leb, lt-leb}
-use Rattle.rules.specs.Profiles.{fullLoad, topLevel, isProfile, dutyAllowed}
-use Rattle.rules.proofs.Tests.{tests}
-use Rattle.control.specs.declared.Tuning.{Tuning}
-use Rattle.control.specs.Control.{controlOf, pairingSound, latestSound, soundControl}
+-- What samples change first, then the list and the loads.
+use mathlib.Core.Path.{sym, _∙_}
+use mathlib.Core.Bool.{and-true}
+use borrow.Author.Tests.{not-true, not-false}
+use Rattle.control.specs.Control.{soundControl}
 use borrow.Author.Needs.{needs}
 use Rattle.control.proofs.is_sound.Statement.{statement}
 use Rattle.control.proofs.is_sound.Tie as tie
 
-lies-within-requires : tie.Need-lies-within-requires
-lies-within-requires c κs = search needs
+is-tuning-sound-requires : tie.Need-is-tuning-sound-requires
+is-tuning-sound-requires c κs = search needs
 
 returns : tie.Need-returns
 unfolding soundControl
-returns c = search (tests, sym (c .before .lies-within .ensures) ∙ not-true _ (c .if1 .taken))
+returns c = simp (sym (c .before .is-tuning-sound .ensures) ∙ not-true _ (c .if1 .taken))
 
-profile-passed : (c : tie.Else1) → isProfile (c .before .before .args .profile) ≡ true
-profile-passed c = sym (c .before .lies-within .ensures) ∙ not-false _ (c .if1 .left)
+slice-aggregate-is-listing-sound : tie.Need-slice-aggregate-is-listing-sound
+slice-aggregate-is-listing-sound c = search needs
+
+is-listing-sound-requires : tie.Need-is-listing-sound-requires
+is-listing-sound-requires c κs = search needs
 
 returns-2 : tie.Need-returns-2
 unfolding soundControl
-returns-2 c = search (tests, profile-passed (c .before .before))
-
-lies-within-requires-2 : tie.Need-lies-within-requires-2
-lies-within-requires-2 c κs = search needs
-
-returns-3 : tie.Need-returns-3
-unfolding soundControl
-returns-3 c =
-    search (
-      tests,
-      profile-passed (c .before .before .before .before),
-      sym (c .before .lies-within2 .ensures) ∙ not-true _ (c .if3 .taken),
-    )
-
-duty-passed : (c : tie.Else3) → dutyAllowed (c .before .before .before .before .before .before .args .t .duty) ≡ true
-duty-passed c = sym (c .before .lies-within2 .ensures) ∙ not-false _ (c .if3 .left)
-
-returns-4 : tie.Need-returns-4
-unfolding soundControl
-returns-4 c =
-    let b = c .before .before in
-    search (tests, profile-passed (b .before .before .before .before), duty-passed b)
-
-returns-5 : tie.Need-returns-5
-unfolding soundControl
-returns-5 c =
-    let b = c .before .before .before .before in
-    search (tests, profile-passed (b .before .before .before .before), duty-passed b)
-
-is-latest-sound-requires : tie.Need-is-latest-sound-requires
-is-latest-sound-requires c κs = search needs
-
-returns-6 : tie.Need-returns-6
-unfolding soundControl
-returns-6 c =
-    let b = c .before .before .before .before .before .before in
-    search (
-      tests,
-      profile-passed (b .before .before .before .before),
-      duty-passed b,
-      sym (c .before .is-latest-sound .ensures) ∙ not-true _ (c .if6 .taken),
-    )
-
--- what the tests before the last leave
-record Passed (profile : ℕ) (t : Tuning) : Type 0 where
-  profile-allowed : isProfile profile ≡ true
-  level : t .level ≤ topLevel
-  duty : dutyAllowed (t .duty) ≡ true
-  smoothed : t .smoothed ≤ fullLoad
-  kept : t .kept ≤ fullLoad
-  latest : latestSound profile (t .latest) ≡ true
-
-passed : (c : tie.Else6)
-    → let a = c .before .before .before .before .before .before .before .before .before .before .before .before .args in
-    Passed (a .profile) (a .t)
-passed c =
-    let b = c .before .before .before .before .before .before in
-    record {
-      profile-allowed = profile-passed (b .before .before .before .before);
-      level = omega arith;
-      duty = duty-passed b;
-      smoothed = omega arith;
-      kept = omega arith;
-      latest = sym (c .before .is-latest-sound .ensures) ∙ not-false _ (c .if6 .left);
-    }
-
--- by whether a sample is kept
-none-kept : (profile : ℕ) (t : Tuning) → Passed profile t → t .pairing ≡ 0
-    → eqb (t .kept) 0 ≡ soundControl (controlOf profile t)
-unfolding soundControl pairingSound
-none-kept profile t p e =
+returns-2 c =
+    let b = c .before .before .before in
     simp (
-      p .profile-allowed,
-      le-leb _ _ (p .level),
-      p .duty,
-      le-leb _ _ (p .smoothed),
-      le-leb _ _ (p .kept),
-      p .latest,
-      e,
+      sym (b .before .is-tuning-sound .ensures) ∙ not-false _ (b .if1 .left),
+      c .is-listing-sound .ensures,
       and-true,
     )
-
-one-kept : (profile : ℕ) (t : Tuning) → Passed profile t → t .pairing ≡ 1
-    → eqb profile 3 ≡ soundControl (controlOf profile t)
-unfolding soundControl pairingSound
-one-kept profile t p e =
-    simp (
-      p .profile-allowed,
-      le-leb _ _ (p .level),
-      p .duty,
-      le-leb _ _ (p .smoothed),
-      le-leb _ _ (p .kept),
-      p .latest,
-      e,
-      and-true,
-    )
-
-more-kept : (profile : ℕ) (t : Tuning) → Passed profile t → 1 < t .pairing
-    → false ≡ soundControl (controlOf profile t)
-unfolding soundControl
-more-kept profile t p e =
-    simp (
-      p .profile-allowed,
-      le-leb _ _ (p .level),
-      p .duty,
-      le-leb _ _ (p .smoothed),
-      le-leb _ _ (p .kept),
-      p .latest,
-      lt-leb _ _ e,
-    )
-
-returns-7 : tie.Need-returns-7
-returns-7 c = none-kept _ _ (passed (c .before .before)) (c .before .match .keys1)
-
-returns-8 : tie.Need-returns-8
-returns-8 c = one-kept _ _ (passed (c .before)) (c .match .keys2)
-
-returns-9 : tie.Need-returns-9
-returns-9 c = more-kept _ _ (passed (c .before)) (omega (arith, c .match .rest))
 
 pub is-sound-spec : {M : Type 1} → statement M
 is-sound-spec =
     tie.close
     (tie.spec
-    lies-within-requires
+    is-tuning-sound-requires
     returns
-    returns-2
-    lies-within-requires-2
-    returns-3
-    returns-4
-    returns-5
-    is-latest-sound-requires
-    returns-6
-    returns-7
-    returns-8
-    returns-9)
+    slice-aggregate-is-listing-sound
+    is-listing-sound-requires
+    returns-2)

@@ -5,8 +5,8 @@ use lib.ListN.{length}
 use native.Mathlib.Omega.{arith}
 use Rattle.packing.proofs.Zeros.{ZerosPast, zeros-next, zeros-done}
 use borrow.Author.Needs.{needs}
-use Rattle.machine.proofs.are_zero.Statement.{statement}
-use Rattle.machine.proofs.are_zero.Tie as tie
+use Rattle.machine.proofs.bits_of.Statement.{statement}
+use Rattle.machine.proofs.bits_of.Tie as tie
 
 abbrev Inv-loop : tie.InvT-loop
 Inv-loop xs bits₀ i₀ bits i = (i ≤ length xs) × ZerosPast 0 xs bits i
@@ -41,8 +41,8 @@ returns c =
     let xs = a .before .args .xs .now in
     sym (zeros-done 0 xs (a .loop .bits) (a .loop .i) (a .loop .inv .1) (omega arith))
 
-pub are-zero-spec : {M : Type 1} → statement M
-are-zero-spec =
+pub bits-of-spec : {M : Type 1} → statement M
+bits-of-spec =
     tie.close
     (tie.spec
     Inv-loop
