@@ -9,7 +9,7 @@ use Rattle.rules.specs.Levels.{wantedBy, towards, waitBy}
 use Rattle.rules.specs.Duty.{smoothedOf, offsetOf, dutyOf}
 use Rattle.rules.specs.Wait.{adaptiveWait}
 use Rattle.rules.specs.Harmonised.{perMille, factorOf, harmonisedWait}
-use Rattle.control.specs.Wait.{waitOf}
+use Rattle.control.specs.Wait.{waitWith}
 use Rattle.cstack.specs.declared.LevelAnswer.{LevelAnswer}
 use Rattle.cstack.specs.declared.DutyAnswer.{DutyAnswer}
 use Rattle.cstack.specs.declared.WaitAnswer.{WaitAnswer}
@@ -127,7 +127,7 @@ update-loads = refl
 -- number" (W-209)
 
 wait : (profile level duty ontime load : ℕ) → WaitAnswer
-unfolding within mostOntime ontimeAllowed firstOf waitBy adaptiveWait perMille factorOf harmonisedWait waitOf waitAnswer
+unfolding within mostOntime ontimeAllowed firstOf waitBy adaptiveWait perMille factorOf harmonisedWait waitWith waitAnswer
 wait profile level duty ontime load =
     waitAnswer (record { profile = profile; level = level; duty = duty; ontime = ontime; load = load })
 

@@ -227,4 +227,4 @@ together-on-air w g (t ∷ ts) =
 
 pub most-by-profile : MostByProfile
 unfolding most claimsCeiling within
-most-by-profile = (refl, refl, refl, refl)
+most-by-profile = (refl, refl, refl, refl, refl)

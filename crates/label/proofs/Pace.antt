@@ -52,7 +52,7 @@ fit-by l a b c = record { some = ltb-true _ _ a; soon = leb-true _ _ b; short = 
 pub fit : (profile : ℕ) → Fit (limitsOf profile)
 fit profile =
     on-limits Fit profile (fit-by _ refl refl refl) (fit-by _ refl refl refl) (fit-by _ refl refl refl)
-    (fit-by _ refl refl refl)
+    (fit-by _ refl refl refl) (fit-by _ refl refl refl)
 
 module _ (profile : ℕ) where
   abbrev pub Waits : Admission → ℕ → Type 0

@@ -5,9 +5,10 @@ use Prim.Native.Nat.{ℕ}
 use mathlib.Core.Path.{_≡_, refl}
 use mathlib.Core.List.{[], _∷_}
 use mathlib.Core.Logic.{inl}
+use Rattle.machine.specs.Levels.{noLevels}
 use Rattle.model.specs.declared.Offer.{Offer}
 use Rattle.model.specs.declared.Answer.the-variants.{Sent}
-use Rattle.model.specs.Calls.{count, offer, poll}
+use Rattle.model.specs.Calls.{count, offer, poll, makingOf}
 use Rattle.model.specs.Gate.{call}
 use Rattle.model.specs.Claims.{viewAfter}
 use Rattle.model.proofs.Computing.{of-runs}
@@ -23,7 +24,7 @@ two : Run
 unfolding of-runs message
 two =
     record {
-      making = record { profile = 1; oldway = 0; stamp = 0 };
+      making = makingOf 1 0 noLevels 0;
       calls =
           count 0 1000 1000
           ∷ count 0 1000 1000

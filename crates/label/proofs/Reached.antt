@@ -12,11 +12,15 @@ use Rattle.rules.specs.Profiles.{mostOffers, within, ontimeAllowed}
 use Rattle.rules.specs.Clock.{endOfTime}
 use Rattle.rules.proofs.Profiles.{allowed}
 use Rattle.rules.proofs.Tests.{tested}
-use Rattle.control.specs.Control.{Control, freshControl}
+use lib.ListN.{replicate}
+use Rattle.machine.specs.declared.Levels.{Levels}
+use Rattle.machine.specs.Loads.{noLoads}
+use Rattle.control.specs.Control.{Control, controlOf, freshControl}
 use Rattle.control.specs.Wait.{closedAfter}
 use Rattle.control.specs.Owed.{second, claimsCeiling}
+use Rattle.machine.specs.Levels.{levelsOf, noLevels}
 use Rattle.model.specs.declared.Answer.the-variants.{Ready}
-use Rattle.model.specs.Calls.{Call, count, Making}
+use Rattle.model.specs.Calls.{Call, count, Making, makingOf}
 use Rattle.model.specs.Ledger.{mostAir}
 use Rattle.model.specs.Gate.{make}
 use Rattle.model.specs.Journal.{Journal, opened, airIn, journalOf}
@@ -66,8 +70,12 @@ module _ (m : Making) (first : List Call) (ready : make m .answer ≡ Ready) (k 
         on-air = ap (onAir 0 w) all ∙ heard-ticks m k period ontime others w n (leb-true _ _ h) ∙ same;
       }
 
+-- the list with the shortest waits, which profile 5 takes and no other looks at
+abbrev calmest : Levels
+calmest = levelsOf 1 40000 (1000000 ∷ replicate 7 0) (40000 ∷ replicate 7 0)
+
 made : (profile : ℕ) → Making
-made profile = record { profile = profile; oldway = 0; stamp = 0 }
+made profile = makingOf profile 0 calmest 0
 
 -- what a steady sender needs, by computing
 steady-by : (m : Making) (k : Control) (period ontime others : ℕ) → m .oldway ≡ 0 → leb (closedAfter k ontime) period ≡ true
@@ -85,9 +93,9 @@ steady-by m k period ontime others n w p r a t =
 
 -- a fresh gate
 module _ (profile : ℕ) (ready : make (made profile) .answer ≡ Ready)
-    (is-fresh : make (made profile) .view .control ≡ freshControl profile) (period ontime others : ℕ)
-    (s : Steady (made profile) (freshControl profile) period ontime others) where
-  fresh-beat : Beat (made profile) (freshControl profile) period ontime others 0
+    (is-fresh : make (made profile) .view .control ≡ freshControl profile calmest) (period ontime others : ℕ)
+    (s : Steady (made profile) (freshControl profile calmest) period ontime others) where
+  fresh-beat : Beat (made profile) (freshControl profile calmest) period ontime others 0
       (viewAfter (make (made profile) .view) []) (journalOf (opened 0) (events (make (made profile) .view) []))
   unfolding made viewAfter events journalOf ticks
   fresh-beat =
@@ -104,19 +112,23 @@ module _ (profile : ℕ) (ready : make (made profile) .answer ≡ Ready)
 
   from-fresh : Reaching profile period ontime
   unfolding made
-  from-fresh = reaches (made profile) [] ready (freshControl profile) period ontime others s fresh-beat
+  from-fresh = reaches (made profile) [] ready (freshControl profile calmest) period ontime others s fresh-beat
 
-steady-1 : Steady (made 1) (freshControl 1) 101000 1000 9
+steady-1 : Steady (made 1) (freshControl 1 calmest) 101000 1000 9
 unfolding of-waits made
 steady-1 = steady-by _ _ _ _ _ refl refl refl refl refl refl
 
-steady-2 : Steady (made 2) (freshControl 2) 50500 500 19
+steady-2 : Steady (made 2) (freshControl 2 calmest) 50500 500 19
 unfolding of-waits made
 steady-2 = steady-by _ _ _ _ _ refl refl refl refl refl refl
 
-steady-4 : Steady (made 4) (freshControl 4) 125000 3750 7
+steady-4 : Steady (made 4) (freshControl 4 calmest) 125000 3750 7
 unfolding of-waits made
 steady-4 = steady-by _ _ _ _ _ refl refl refl refl refl refl
+
+steady-5 : Steady (made 5) (freshControl 5 calmest) 41000 1000 24
+unfolding of-runs made
+steady-5 = steady-by _ _ _ _ _ refl refl refl refl refl refl
 
 -- samples of an empty channel, before profile 3 sends
 calm : ℕ → List Call
@@ -126,10 +138,7 @@ calm (suc n) = count 0 0 1000 ∷ calm n
 -- the greatest duty
 raised : Control
 raised =
-    record {
-      profile = 3;
-      tuning = record { level = 0; duty = 30000000; smoothed = 0; kept = 0; pairing = 0; latest = 0 };
-    }
+    controlOf 3 (record { level = 0; duty = 30000000; smoothed = 0; kept = 0; pairing = 0; latest = 0 }) noLevels noLoads
 
 steady-3 : Steady (made 3) raised 125000 3750 7
 unfolding of-waits made raised
@@ -187,5 +196,12 @@ reached-4 = (go 8 _ refl refl refl refl, go 480 _ refl refl refl refl, go 28800 
     go : Reaching 4 125000 3750
     go = from-fresh 4 refl refl 125000 3750 7 steady-4
 
+reached-5 : ReachedBy 5
+unfolding of-runs made most claimsCeiling
+reached-5 = (go 25 _ refl refl refl refl, go 1464 _ refl refl refl refl, go 87805 _ refl refl refl refl)
+  where
+    go : Reaching 5 41000 1000
+    go = from-fresh 5 refl refl 41000 1000 24 steady-5
+
 pub most-reached : MostReached
-most-reached = (reached-1, reached-2, reached-3, reached-4)
+most-reached = (reached-1, reached-2, reached-3, reached-4, reached-5)

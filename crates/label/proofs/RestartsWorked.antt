@@ -3,7 +3,8 @@ use Prim.Native.Nat.{ℕ, zero, suc, _+_, _*_}
 use mathlib.Core.Path.{_≡_, refl}
 use mathlib.Core.List.{List, [], _∷_, _++_}
 use native.Mathlib.Omega.{arith}
-use Rattle.model.specs.Calls.{Call, offer, poll}
+use Rattle.machine.specs.Levels.{noLevels}
+use Rattle.model.specs.Calls.{Call, offer, poll, makingOf}
 use Rattle.model.specs.Journal.{airTime, airIn}
 use Rattle.model.proofs.Computing.{of-runs}
 use Rattle.label.specs.Trailer.{Run}
@@ -16,7 +17,7 @@ sends at ontime = offer at (record { id = 1; priority = 0; ontime = ontime; life
 -- a run of profile 4 that sends a packet of 4,000 µs at once
 at-once : Run
 unfolding of-runs sends
-at-once = record { making = record { profile = 4; oldway = 0; stamp = 0 }; calls = sends 0 4000; ready = refl }
+at-once = record { making = makingOf 4 0 noLevels 0; calls = sends 0 4000; ready = refl }
 
 -- so many of them, a make every 4 ms
 makes : ℕ → List Started
@@ -42,7 +43,7 @@ seven : Run
 unfolding of-runs sends
 seven =
     record {
-      making = record { profile = 4; oldway = 0; stamp = 0 };
+      making = makingOf 4 0 noLevels 0;
       calls =
           sends 0 3667
           ++ sends 28667 3667
@@ -74,7 +75,7 @@ follows = (((omega arith, tt), tt), ((tt, tt), tt))
 
 patient : Run
 unfolding of-runs sends
-patient = record { making = record { profile = 4; oldway = 0; stamp = 0 }; calls = sends 1000000 4000; ready = refl }
+patient = record { making = makingOf 4 0 noLevels 0; calls = sends 1000000 4000; ready = refl }
 
 waits-first : WaitsFirst (record { run = patient; made = 1000001 } ∷ record { run = patient; made = 1 } ∷ [])
 unfolding of-runs sends patient sentInAll

@@ -85,6 +85,7 @@ MostByProfile =
     × MostIs 2 (1000 ∷ 5000 ∷ 10000 ∷ 15000 ∷ 99500 ∷ 594500 ∷ 35644000 ∷ [])
     × MostIs 3 (6999 ∷ 18999 ∷ 30000 ∷ 48999 ∷ 300000 ∷ 1800000 ∷ 108000000 ∷ [])
     × MostIs 4 (16000 ∷ 30000 ∷ 30000 ∷ 60000 ∷ 300000 ∷ 1800000 ∷ 108000000 ∷ [])
+    × MostIs 5 (3000 ∷ 13000 ∷ 25000 ∷ 37000 ∷ 244000 ∷ 1464000 ∷ 87805000 ∷ [])
 
 -- a run of a profile that reaches the most in its first w µs, admitted and on air
 pub record Reached (profile w : ℕ) : Type 0 where
@@ -99,4 +100,4 @@ ReachedBy profile = Reached profile 1000000 × Reached profile 60000000 × Reach
 
 -- so no figure could be less
 abbrev pub MostReached : Type 0
-MostReached = ReachedBy 1 × ReachedBy 2 × ReachedBy 3 × ReachedBy 4
+MostReached = ReachedBy 1 × ReachedBy 2 × ReachedBy 3 × ReachedBy 4 × ReachedBy 5

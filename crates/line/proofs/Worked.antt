@@ -1,17 +1,19 @@
 -- Document 01's sample log and W-207's example of document 02 on the list, and what W-212's sentences come to: the definitions
 -- run, and each side computes to the other.
-use Prim.Native.Nat.{ℕ, _+_, _*_}
+use Prim.Native.Nat.{ℕ, zero, suc, _+_, _*_}
 use mathlib.Core.Path.{_≡_, refl}
 use mathlib.Core.Bool.{Bool, true, false}
 use mathlib.Core.List.{List, [], _∷_, _++_, map}
-use lib.ListN.{length}
+use lib.ListN.{length, replicate}
 use Rattle.rules.specs.Tests.{allOf}
+use Rattle.machine.specs.declared.Levels.{Levels}
+use Rattle.machine.specs.Levels.{levelsOf}
 use Rattle.model.specs.declared.Packet.{Packet}
 use Rattle.model.specs.declared.Answer.{Answer}
 use Rattle.model.specs.declared.Answer.the-variants.{Ready, Taken, Sent, Idle, Closed, Refused}
 use Rattle.model.specs.Packets.{chosen}
 use Rattle.model.specs.Queues.{queueRules}
-use Rattle.model.specs.Calls.{Call, poll, Making}
+use Rattle.model.specs.Calls.{Call, count, poll, Making, makingOf}
 use Rattle.model.specs.State.{statusFrom}
 use Rattle.model.specs.Gate.{makeIn}
 use Rattle.model.specs.Claims.{viewAfter, events}
@@ -140,3 +142,34 @@ one-displaced = refl
 one-refused : answersOf (after (made (makingOld 1 0)) twenty) (offering 0 99 2 400 60000 ∷ []) ≡ Refused 8 ∷ []
 unfolding answersOf after made twenty
 one-refused = refl
+
+-- profile 5 (document 02, W-213): "W-212's engine takes the profile too". Eight levels, the top one reached at 80 %, with a wait
+-- of 60 ms at level 0 and of 400 ms at the top
+eight : Levels
+eight =
+    levelsOf 8 60000 (100000 ∷ 200000 ∷ 300000 ∷ 400000 ∷ 500000 ∷ 600000 ∷ 700000 ∷ 800000 ∷ [])
+    (replicate 7 100000 ++ 400000 ∷ [])
+
+listed : Listed
+unfolding made eight
+listed = made (makingOf 5 0 eight 0)
+
+-- so many samples in which every probe was busy
+full : ℕ → List Call
+full zero = []
+full (suc n) = count 0 1000 1000 ∷ full n
+
+-- nine leave level 0, the tenth gives the top at once
+tenth-lifts : map (λ (n : ℕ). after listed (full n) .control .tuning .level) (0 ∷ 9 ∷ 10 ∷ []) ≡ 0 ∷ 0 ∷ 8 ∷ []
+unfolding after listed full
+tenth-lifts = refl
+
+-- and the wait is the level's, from the end of the packet that went
+two-wait : List Call
+two-wait = offering 0 1 0 400 60000 ∷ offering 0 2 0 400 60000 ∷ poll 0 ∷ []
+
+closed-by-the-list :
+    map (λ (n : ℕ). answersOf (after listed (full n ++ two-wait)) (poll 1 ∷ [])) (9 ∷ 10 ∷ [])
+    ≡ (Closed 60399 ∷ []) ∷ (Closed 400399 ∷ []) ∷ []
+unfolding answersOf after listed full two-wait
+closed-by-the-list = refl

@@ -7,8 +7,13 @@ use Rattle.rules.specs.Levels.{wantedBy, towards, waitBy}
 use Rattle.rules.specs.Duty.{smoothedOf, offsetOf, dutyOf}
 use Rattle.rules.specs.Wait.{adaptiveWait, startOf}
 use Rattle.rules.specs.Harmonised.{perMille, factorOf, harmonisedWait}
-use Rattle.control.specs.Control.{pairingSound, latestSound, soundControl, sampled}
-use Rattle.control.specs.Wait.{waitOf}
+use Rattle.packing.specs.Packing as packing
+use Rattle.machine.specs.Levels.{thresholdAt, waitAt, rising, goodList, soundList, tidied, noneListed}
+use Rattle.machine.specs.Loads.{packed, soundLoads, noneHeld}
+use Rattle.machine.specs.Moves.{leastFrom, greatestFrom, leastOf, lowOf, highOf, reaches, highestTo, levelAfter, movedBy}
+use Rattle.control.specs.Control.{listKept, pairingSound, latestSound, topOf, listingSound, tuningSound, soundControl}
+use Rattle.control.specs.Control.{tuned, sampled}
+use Rattle.control.specs.Wait.{waitWith}
 use Rattle.control.specs.Owed.{quiet}
 use Rattle.model.specs.Packets.{withoutExpired, inOrder}
 use Rattle.model.specs.Queues.{queueSound, choice}
@@ -23,16 +28,23 @@ unfoldable pub of-numbers : Type 0
 unfolding within reactiveOf mostOntime ontimeAllowed stepOf goesBack passesEnd firstOf
 of-numbers = Unit {0}
 
+unfoldable pub of-lists : Type 0
+unfolding tidied packed thresholdAt leastFrom greatestFrom leastOf lowOf highOf reaches highestTo levelAfter movedBy
+    packing.allAre packing.filled packing.padded
+of-lists = Unit {0}
+
 unfoldable pub of-samples : Type 0
-unfolding of-numbers goodProbes probe busyOf noStray goodWords badCount loadOf wantedBy towards smoothedOf offsetOf dutyOf sampled
+unfolding of-numbers goodProbes probe busyOf noStray goodWords badCount loadOf wantedBy towards smoothedOf offsetOf dutyOf
+    listKept tuned sampled of-lists
 of-samples = Unit {0}
 
 unfoldable pub of-waits : Type 0
-unfolding of-numbers waitBy adaptiveWait perMille factorOf harmonisedWait startOf waitOf quiet
+unfolding of-numbers waitBy adaptiveWait perMille factorOf harmonisedWait startOf waitAt waitWith quiet
 of-waits = Unit {0}
 
 unfoldable pub of-soundness : Type 0
-unfolding of-numbers pairingSound latestSound soundControl inOrder queueSound spacedOut newestIs airOf sound
+unfolding of-numbers pairingSound latestSound topOf listingSound tuningSound soundControl goodList rising soundList noneListed
+    soundLoads noneHeld of-lists inOrder queueSound spacedOut newestIs airOf sound
 of-soundness = Unit {0}
 
 unfoldable pub of-calls : Type 0

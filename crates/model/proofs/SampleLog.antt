@@ -3,11 +3,12 @@ use Prim.Native.Nat.{ℕ, _-_}
 use mathlib.Core.Path.{_≡_, refl}
 use mathlib.Core.List.{List, [], _∷_, _++_, map}
 use Rattle.control.specs.Owed.{quiet}
+use Rattle.machine.specs.Levels.{noLevels}
 use Rattle.model.specs.declared.Offer.{Offer}
 use Rattle.model.specs.declared.Answer.{Answer}
 use Rattle.model.specs.declared.Answer.the-variants.{Ready, Taken, Sent, Idle, Closed, Refused}
 use Rattle.model.specs.Packets.{packetOf}
-use Rattle.model.specs.Calls.{Call, count, offer, poll, Making}
+use Rattle.model.specs.Calls.{Call, count, offer, poll, Making, makingOf}
 use Rattle.model.specs.Gate.{make}
 use Rattle.model.specs.Journal.{opened, journalOf}
 use Rattle.model.specs.Claims.{viewAfter, events}
@@ -16,7 +17,7 @@ use Rattle.model.proofs.Worked.{made, answersOf}
 
 -- the records of the sample log
 sampleMake : Making
-sampleMake = record { profile = 2; oldway = 0; stamp = 4294967000 }
+sampleMake = makingOf 2 0 noLevels 4294967000
 
 seven : Offer
 seven = record { id = 7; priority = 2; ontime = 400; lifetime = 1000000 }

@@ -9,9 +9,10 @@ use native.Mathlib.Omega.{arith}
 use lib.Dec.{eqb}
 use lib.ListN.{length}
 use borrow.Author.Tests.{not-false, eqb-true, le-leb, lt-leb}
-use Rattle.rules.specs.Profiles.{isProfile}
+use Rattle.rules.specs.Profiles.{within, isProfile}
+use Rattle.rules.proofs.Profiles.{by-profile}
 use Rattle.rules.specs.Refusals.{firstOf, FirstHolds}
-use Rattle.rules.proofs.Cases.{on-cond, clash, within-true, true-within}
+use Rattle.rules.proofs.Cases.{on-cond, clash}
 use Rattle.rules.proofs.Refusals.{of-none}
 use Rattle.rules.proofs.Tests.{tested}
 use Rattle.control.specs.Owed.{quiet, claimsCeiling}
@@ -93,10 +94,11 @@ ready-profile m =
     (λ e r. not-false _ (of-none (makeChecks m) (omega tested) (eqb-true _ _ e) .0))
     (λ e r. clash (cc))
 
--- the first three profiles claim the ceiling
-claimed : (profile : ℕ) → isProfile profile ≡ true → profile ≤ 3 → claimsCeiling profile ≡ true
-unfolding claimsCeiling
-claimed profile e h = true-within 1 3 profile (within-true _ _ profile e .0) h
+-- all profiles but the fourth claim the ceiling
+claimed : (profile : ℕ) → isProfile profile ≡ true → (profile ≡ 4 → ⊥) → claimsCeiling profile ≡ true
+unfolding claimsCeiling within
+claimed profile e h = by-profile (λ n. (n ≡ 4 → ⊥) → claimsCeiling n ≡ true) (λ h. refl) (λ h. refl) (λ h. refl)
+    (λ h. absurd (h refl)) (λ h. refl) profile e h
 
 -- "a make that isn't refused, then any list of samples (by words or count), offers and polls"
 module _ (m : Making) (calls : List Call) (ready : make m .answer ≡ Ready) where
@@ -158,9 +160,9 @@ module _ (m : Making) (calls : List Call) (ready : make m .answer ≡ Ready) whe
       + (length (v .waiting .c0) + length (v .waiting .c1) + length (v .waiting .c2) + length (v .waiting .c3))
   adds-up = claims .adds-up
 
-  -- "in any window of W µs, 100 x air time admitted ≤ 3 W + 400,000", in profiles 1 to 3; "01's ceiling isn't claimed for"
-  -- profile 4 (W-209)
-  ceiling : m .profile ≤ 3 → (from w : ℕ) → 100 * airTime from w (j .admissions) ≤ 3 * w + 400000
+  -- "in any window of W µs, 100 x air time admitted ≤ 3 W + 400,000", in every profile but 4: "01's ceiling isn't claimed for
+  -- it" (W-209), in profile 5 "01's ceiling holds" (W-213)
+  ceiling : (m .profile ≡ 4 → ⊥) → (from w : ℕ) → 100 * airTime from w (j .admissions) ≤ 3 * w + 400000
   ceiling h = claims .ceiling (claimed (m .profile) (ready-profile m ready) h)
 
   -- "Over any run from a fresh state, on-times admitted in any half-open stretch of 1,000,000 µs sum to at most 30,000." (W-207)
@@ -210,6 +212,9 @@ module _ (m : Making) (calls : List Call) (ready : make m .answer ≡ Ready) whe
 
   floor-of-4 : m .profile ≡ 4 → Floor 1004000
   floor-of-4 e = floor-by 1004000 (ap quiet e ∙ floors .3)
+
+  floor-of-5 : m .profile ≡ 5 → Floor 1001000
+  floor-of-5 e = floor-by 1001000 (ap quiet e ∙ floors .4)
 
   -- "SENT never comes with all columns empty, and carries the packet struck"
   carried : (stamp : ℕ) (p : Packet) → call v (poll stamp) .answer ≡ Sent p

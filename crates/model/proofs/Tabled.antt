@@ -15,8 +15,8 @@ use Rattle.rules.proofs.Refusals.{of-none}
 use Rattle.rules.proofs.Tests.{all-true}
 use Rattle.rules.proofs.Tabled.{waits-alike}
 use Rattle.control.specs.Control.{Control, soundControl}
-use Rattle.control.specs.Wait.{waitOf}
-use Rattle.control.proofs.Controls.{latest-le}
+use Rattle.control.specs.Wait.{waitOf, waitWith}
+use Rattle.control.proofs.Controls.{test-control, steerable}
 use Rattle.model.specs.declared.Packet.{Packet}
 use Rattle.model.specs.declared.Answer.{Answer}
 use Rattle.model.specs.declared.Answer.the-variants.{Sent, Closed}
@@ -32,10 +32,11 @@ use Rattle.model.specs.Tabled.{GatesAlike}
 use Rattle.model.proofs.Refusals.{checks-numbered}
 
 waits : (k : Control) (ontime : ℕ) → soundControl k ≡ true → tabledWaitOf k ontime ≡ waitOf k ontime
-unfolding tabledWaitOf waitOf
+unfolding tabledWaitOf waitWith
 waits k ontime s =
     split (eqb (k .profile) 4)
-    (λ e. simp (eqb-true (k .profile) 4 e) (waits-alike ontime (k .tuning .latest) (latest-le k s)))
+    (λ e. simp (eqb-true (k .profile) 4 e) (waits-alike ontime (k .tuning .latest)
+    (steerable (k .profile) (k .levels .len) (k .tuning) (test-control k s .tuning) .latest)))
     (λ e. rw e)
 
 -- a poll by how long the gate is closed

@@ -4,8 +4,12 @@ use Prim.Native.Nat.{ℕ, _+_}
 use mathlib.Core.Path.{_≡_, refl}
 use mathlib.Core.Bool.{cond}
 use mathlib.Core.List.{List, [], _∷_, _++_, map}
+use lib.ListN.{replicate}
 use Rattle.rules.specs.Refusals.{Check}
-use Rattle.control.specs.Control.{Control}
+use Rattle.machine.specs.declared.Levels.{Levels}
+use Rattle.machine.specs.Levels.{levelsOf, noLevels}
+use Rattle.machine.specs.Loads.{noLoads}
+use Rattle.control.specs.Control.{Control, controlOf}
 use Rattle.model.specs.declared.Packet.{Packet}
 use Rattle.model.specs.declared.Clock.{Clock}
 use Rattle.model.specs.declared.Last.{Last}
@@ -16,7 +20,7 @@ use Rattle.model.specs.declared.Answer.{Answer}
 use Rattle.model.specs.declared.Answer.the-variants.{Ready, Taken, Sent, Idle, Closed, Refused}
 use Rattle.model.specs.Packets.{Holding}
 use Rattle.model.specs.Fours.{Four}
-use Rattle.model.specs.Calls.{Call, words, count, offer, poll, Making}
+use Rattle.model.specs.Calls.{Call, words, count, offer, poll, Making, makingOf}
 use Rattle.model.specs.Ledger.{isRecent}
 use Rattle.model.specs.State.{Status, View, withClock, withControl, withLast, withLedger, withCounts}
 use Rattle.model.specs.Effects.{result}
@@ -42,20 +46,14 @@ withDisplaced displaced c =
 -- without a latest load
 abbrev pub steered : (profile level duty smoothed kept pairing : ℕ) → Control
 steered profile level duty smoothed kept pairing =
-    record {
-      profile = profile;
-      tuning =
-          record { level = level; duty = duty; smoothed = smoothed; kept = kept; pairing = pairing; latest = 0 };
-    }
+    controlOf profile
+    (record { level = level; duty = duty; smoothed = smoothed; kept = kept; pairing = pairing; latest = 0 }) noLevels noLoads
 
 -- with one, and no sample kept
 abbrev pub lately : (profile level duty smoothed latest : ℕ) → Control
 lately profile level duty smoothed latest =
-    record {
-      profile = profile;
-      tuning =
-          record { level = level; duty = duty; smoothed = smoothed; kept = 0; pairing = 0; latest = latest };
-    }
+    controlOf profile
+    (record { level = level; duty = duty; smoothed = smoothed; kept = 0; pairing = 0; latest = latest }) noLevels noLoads
 
 abbrev pub packet : (id priority ontime lifetime arrival : ℕ) → Packet
 packet id priority ontime lifetime arrival =
@@ -100,12 +98,12 @@ withWay oldway v =
       waiting = v .waiting;
     }
 
--- in the new way, and in the old one
+-- in the new way, and in the old one; without a list
 abbrev pub making : (profile stamp : ℕ) → Making
-making profile stamp = record { profile = profile; oldway = 0; stamp = stamp }
+making profile stamp = makingOf profile 0 noLevels stamp
 
 abbrev pub makingOld : (profile stamp : ℕ) → Making
-makingOld profile stamp = record { profile = profile; oldway = 1; stamp = stamp }
+makingOld profile stamp = makingOf profile 1 noLevels stamp
 
 abbrev pub offering : (stamp id priority ontime lifetime : ℕ) → Call
 offering stamp id priority ontime lifetime =
@@ -139,7 +137,7 @@ numbersOf : List Check → List ℕ
 unfolding checks
 numbersOf cs = map (λ (c : Check). c .number) cs
 
-order-of-make : (m : Making) → numbersOf (makeChecks m) ≡ 1 ∷ 1 ∷ []
+order-of-make : (m : Making) → numbersOf (makeChecks m) ≡ 1 ∷ 1 ∷ 15 ∷ []
 unfolding numbersOf
 order-of-make m = refl
 
@@ -181,17 +179,41 @@ timed : (time : ℕ) → View
 unfolding made
 timed time = withClock (made 1) (clockAt time 0)
 
--- 1 "At making .. a profile outside 1 to 4 now gets number 1" (W-209)
+-- 1 "at making a profile outside 1 to 5 gets number 1" (W-213); 15 "A list that breaks a rule is refused at making with 15,
+-- BAD-LIST, after 1; it is judged for profile 5 alone": an empty one here
 profiles :
-    map (λ (n : ℕ). make (making n 5) .answer) (0 ∷ 1 ∷ 2 ∷ 3 ∷ 4 ∷ 5 ∷ [])
-    ≡ Refused 1 ∷ Ready ∷ Ready ∷ Ready ∷ Ready ∷ Refused 1 ∷ []
+    map (λ (n : ℕ). make (making n 5) .answer) (0 ∷ 1 ∷ 2 ∷ 3 ∷ 4 ∷ 5 ∷ 6 ∷ [])
+    ≡ Refused 1 ∷ Ready ∷ Ready ∷ Ready ∷ Ready ∷ Refused 15 ∷ Refused 1 ∷ []
 unfolding of-runs
 profiles = refl
+
+-- a list of one level, reached at 30 %, with waits of 60 ms and 1 s
+abbrev pub oneLevel : Levels
+oneLevel = levelsOf 1 60000 (300000 ∷ replicate 7 0) (1000000 ∷ replicate 7 0)
+
+-- a good list, one whose threshold is 0, and a way that is neither 0 nor 1: 1 comes before 15
+lists :
+    map (λ (m : Making). make m .answer)
+    (makingOf 5 0 oneLevel 5
+    ∷ makingOf 5 0 (levelsOf 1 60000 (replicate 8 0) (1000000 ∷ replicate 7 0)) 5
+    ∷ makingOf 5 2 noLevels 5
+    ∷ makingOf 1 0 (levelsOf 9 0 [] []) 5
+    ∷ [])
+    ≡ Ready ∷ Refused 15 ∷ Refused 1 ∷ Ready ∷ []
+unfolding of-runs
+lists = refl
+
+-- "a bad list with profile 1 is READY, and the state's list is zero" (reading 22); a refused make's too
+lists-in-the-state :
+    map (λ (m : Making). make m .view .control .levels) (makingOf 5 0 oneLevel 5 ∷ makingOf 1 0 oneLevel 5 ∷ making 5 5 ∷ [])
+    ≡ oneLevel ∷ noLevels ∷ noLevels ∷ []
+unfolding of-runs
+lists-in-the-state = refl
 
 -- "1 asks for the old way, 0 for the new, any other number is refused with 1" (W-205), in each profile
 ways :
     map
-    (λ (profile : ℕ). map (λ (n : ℕ). make (record { profile = profile; oldway = n; stamp = 5 }) .answer)
+    (λ (profile : ℕ). map (λ (n : ℕ). make (makingOf profile n noLevels 5) .answer)
     (0 ∷ 1 ∷ 2 ∷ 4294967295 ∷ []))
     (1 ∷ 2 ∷ 3 ∷ 4 ∷ [])
     ≡ map (λ (profile : ℕ). Ready ∷ Ready ∷ Refused 1 ∷ Refused 1 ∷ []) (1 ∷ 2 ∷ 3 ∷ 4 ∷ [])

@@ -6,12 +6,13 @@ use mathlib.Core.Bool.{Bool, true, false}
 use mathlib.Core.List.{List, [], _∷_, map}
 use lib.ListN.{length}
 use Rattle.control.specs.Control.{Control}
+use Rattle.machine.specs.Levels.{noLevels}
 use Rattle.model.specs.declared.Packet.{Packet}
 use Rattle.model.specs.declared.Last.{Last}
 use Rattle.model.specs.declared.Counts.{Counts}
 use Rattle.model.specs.declared.Answer.the-variants.{Ready, Taken, Sent, Idle, Closed, Refused}
 use Rattle.model.specs.Fours.{Four}
-use Rattle.model.specs.Calls.{Call, words, count, poll, replyOf}
+use Rattle.model.specs.Calls.{Call, words, count, poll, replyOf, makingOf}
 use Rattle.model.specs.State.{View, withClock, withControl, withLast, withCounts, withWaiting, sound}
 use Rattle.model.specs.Effects.{result}
 use Rattle.model.specs.Gate.{make, call}
@@ -52,8 +53,8 @@ allZero =
     }
 
 not-live :
-    map make (making 0 5 ∷ making 5 5 ∷ makingOld 0 5 ∷ record { profile = 1; oldway = 2; stamp = 5 } ∷ [])
-    ≡ map (λ (n : ℕ). result allZero (Refused n)) (1 ∷ 1 ∷ 1 ∷ 1 ∷ [])
+    map make (making 0 5 ∷ making 6 5 ∷ makingOld 0 5 ∷ makingOf 1 2 noLevels 5 ∷ making 5 5 ∷ [])
+    ≡ map (λ (n : ℕ). result allZero (Refused n)) (1 ∷ 1 ∷ 1 ∷ 1 ∷ 15 ∷ [])
 unfolding of-runs
 not-live = refl
 

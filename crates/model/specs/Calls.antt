@@ -4,6 +4,7 @@ use Prim.Native.Nat.{ℕ}
 use mathlib.Core.Bool.{Bool}
 use mathlib.Core.List.{List}
 use lib.Dec.{eqb}
+use Rattle.machine.specs.declared.Levels.{Levels}
 use Rattle.model.specs.declared.Packet.{Packet}
 use Rattle.model.specs.declared.Offer.{Offer}
 use Rattle.model.specs.declared.Reply.{Reply}
@@ -27,11 +28,18 @@ stampOf (offer stamp o) = stamp
 stampOf (poll stamp) = stamp
 
 -- make's arguments: the profile; whether the gate is "made in the old way, a yes-or-no fixed at making"
--- (document 02, W-205), 1 or 0; and "last stamp as given to make"
+-- (document 02, W-205), 1 or 0; profile 5's "list of 1 to 8 levels above level 0" (W-213), which no other
+-- profile looks at; and "last stamp as given to make"
 pub record Making : Type 0 where
   pub profile : ℕ
   pub oldway : ℕ
+  pub list : Levels
   pub stamp : ℕ
+
+-- the one builder of make's arguments
+abbrev pub makingOf : (profile oldway : ℕ) → Levels → (stamp : ℕ) → Making
+makingOf profile oldway list stamp =
+    record { profile = profile; oldway = oldway; list = list; stamp = stamp }
 
 -- "Where an answer is an enum, a definition gives this paper's number and values for each of its cases."
 abbrev pub plainReply : (kind number : ℕ) → Reply

@@ -10,6 +10,7 @@ use Rattle.rules.specs.Profiles.{isProfile, lastPriority, ontimeAllowed, lifeti
 use Rattle.rules.specs.Clock.{stepOf, goesBack, passesEnd}
 use Rattle.rules.specs.Samples.{goodWords, badCount}
 use Rattle.rules.specs.Refusals.{Check, check, firstOf, FirstHolds}
+use Rattle.machine.specs.Levels.{badList}
 use Rattle.model.specs.declared.Clock.{Clock}
 use Rattle.model.specs.declared.Offer.{Offer}
 use Rattle.model.specs.declared.Answer.the-variants.{Ready, Closed, Refused}
@@ -59,10 +60,15 @@ checks v c = clockChecks (sound v) (v .clock) (stampOf c) (ownChecks v c)
 abbrev pub unlessRefused : {h : Holding} → (number : ℕ) → Status h → Result h → Result h
 unlessRefused number given done = cond (eqb number 0) done (result given (Refused number))
 
--- 1 BAD-PROFILE: "At making .. a profile outside 1 to 4 now gets number 1" (document 02, W-209); "1 asks for
--- the old way, 0 for the new, any other number is refused with 1" (W-205)
+-- 1 BAD-PROFILE: "at making a profile outside 1 to 5 gets number 1" (document 02, W-213); "1 asks for the old
+-- way, 0 for the new, any other number is refused with 1" (W-205). 15 BAD-LIST: "A list that breaks a rule is
+-- refused at making with 15, BAD-LIST, after 1; it is judged for profile 5 alone."
 abbrev pub makeChecks : Making → List Check
-makeChecks m = check 1 (not (isProfile (m .profile))) ∷ check 1 (ltb 1 (m .oldway)) ∷ []
+makeChecks m =
+    check 1 (not (isProfile (m .profile)))
+    ∷ check 1 (ltb 1 (m .oldway))
+    ∷ check 15 (eqb (m .profile) 5 && badList (m .list))
+    ∷ []
 
 -- "Make's refusal hands back the all-zero, not live state."
 unfoldable pub makeIn : (h : Holding) → Making → Result h

@@ -90,7 +90,7 @@ blank {h} live oldway clock control = statusFrom live oldway clock control noLas
 
 -- "A fresh state: live, last stamp as given to make, running time 0, .., nothing admitted, queues empty."
 abbrev pub fresh : {h : Holding} → Making → Status h
-fresh m = blank 1 (m .oldway) (record { time = 0; stamp = m .stamp }) (freshControl (m .profile))
+fresh m = blank 1 (m .oldway) (record { time = 0; stamp = m .stamp }) (freshControl (m .profile) (m .list))
 
 -- "the all-zero, not live state"
 abbrev pub notLive : {h : Holding} → Status h

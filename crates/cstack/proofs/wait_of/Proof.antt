@@ -8,7 +8,7 @@ use lib.Dec.{leb, eqb}
 use Rattle.rules.specs.Profiles.{byProfile}
 use Rattle.rules.proofs.Cases.{split, within-true}
 use Rattle.rules.proofs.Tests.{tested}
-use Rattle.control.specs.Wait.{waitOf}
+use Rattle.control.specs.Wait.{waitWith}
 use Rattle.cstack.specs.Tables.{WaitArguments}
 use Rattle.cstack.proofs.Judged.{WaitJudged, wait-judged}
 use borrow.Author.Needs.{needs}
@@ -27,14 +27,14 @@ adaptive-wait-requires : tie.Need-adaptive-wait-requires
 adaptive-wait-requires c κs = let j = judged (c .before) in (j .ontime, j .duty)
 
 returns : tie.Need-returns
-unfolding waitOf
+unfolding waitWith
 returns c = simp (c .before .if1 .taken, c .adaptive-wait .ensures)
 
 harmonised-wait-requires : tie.Need-harmonised-wait-requires
 harmonised-wait-requires c κs = let j = judged (c .before .before) in (j .ontime, j .load)
 
 returns-2 : tie.Need-returns-2
-unfolding waitOf
+unfolding waitWith
 returns-2 c = simp (c .before .if2 .taken, c .harmonised-wait .ensures)
 
 constants-requires : tie.Need-constants-requires
@@ -52,15 +52,15 @@ wait-requires-2 c κs = search needs
 pick-requires : tie.Need-pick-requires
 pick-requires c κs = search needs
 
-picked : (profile one two three four : ℕ) → 1 ≤ profile → profile ≤ 2
-    → cond (eqb profile 1) one two ≡ byProfile profile one two three four
-picked profile one two three four low high =
+picked : (profile one two three four five : ℕ) → 1 ≤ profile → profile ≤ 2
+    → cond (eqb profile 1) one two ≡ byProfile profile one two three four five
+picked profile one two three four five low high =
     split (leb profile 1)
     (λ u. let e : profile ≡ 1 = omega (tested, low) in simp e)
     (λ u. let e : profile ≡ 2 = omega (tested, high) in simp e)
 
 returns-3 : tie.Need-returns-3
-unfolding waitOf
+unfolding waitWith
 returns-3 c =
     let w2 = c .before in
     let c2 = w2 .before in
@@ -71,7 +71,7 @@ returns-3 c =
     let good = within-true _ _ _ (judged s .profile) in
     c .pick .ensures
     ∙ simp (w1 .wait .ensures, c1 .constants .ensures, w2 .wait2 .ensures, c2 .constants2 .ensures)
-    (picked (s .args .profile) _ _ _ _ (good .0) (omega (arith, good .1, n .if2 .left, n .before .if1 .left)))
+    (picked (s .args .profile) _ _ _ _ _ (good .0) (omega (arith, good .1, n .if2 .left, n .before .if1 .left)))
 
 pub wait-of-spec : {M : Type 1} → statement M
 wait-of-spec =
