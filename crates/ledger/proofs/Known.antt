@@ -1,8 +1,7 @@
--- What owning a ledger tells of it: it has forty places of either kind, and its length is a number of 64 bits.
+-- What owning a ledger tells of it: it has forty places, and its length is a number of 64 bits.
 use Prim.Native.Nat.{_≤_}
-use mathlib.Core.Path.{_≡_}
 use mathlib.Core.List.{List}
-use lib.ListN.{length, length-map}
+use lib.ListN.{length-map}
 use mir.Val.{Val}
 use denote.Shadow.{shadow}
 use denote.Struct.Declared.{row}
@@ -11,8 +10,8 @@ use Rattle.ledger.specs.declared.Ledger.{Ledger}
 use Rattle.ledger.specs.Layout.{Forty}
 use Rattle.ledger.proofs.Ledger as ledger
 
-pub forty : (l : Ledger) (us : List Val) → shadow (row ledger.the-type .own l us) → Forty (l .ats) × Forty (l .ontimes)
-forty l us s = (simp length-map at (s .1 .1 .1 .0 .1 .0 .1), simp length-map at (s .1 .1 .1 .1 .0 .1 .0 .1))
+pub forty : (l : Ledger) (us : List Val) → shadow (row ledger.the-type .own l us) → Forty (l .slots)
+forty l us s = simp length-map at (s .1 .1 .1 .0 .1 .0 .1)
 
 pub fits-len : (l : Ledger) (us : List Val) → shadow (row ledger.the-type .own l us) → l .len ≤ 18446744073709551615
 fits-len l us s =

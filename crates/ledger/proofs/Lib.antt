@@ -1,7 +1,12 @@
 pub mod Known
+pub mod Word
 pub mod Walk
-pub mod Newest
+pub mod Moved
 pub mod Sound
+pub mod Newest
+pub mod InStep
 pub mod Walking
 pub mod Meaning
+pub mod Kept
+pub mod Settling
 pub mod Worked

@@ -1,48 +1,68 @@
--- The newest of a ledger, found by walking it: the rule of the newest goes by it and by how many there are.
-use Prim.Native.Nat.{ℕ, suc}
+-- The newest of a ledger's admissions is that of the last of its words; it has come, and where it is the last admission its word
+-- is just the on-time.
+use Prim.Native.Nat.{ℕ, zero, suc, _+_, _-_, _≤_, _<_}
 use mathlib.Core.Path.{_≡_, refl, ap, _∙_}
-use mathlib.Core.Bool.{Bool, false, cond, not, _&&_}
+use mathlib.Core.Bool.{Bool, true, _&&_}
 use mathlib.Core.List.{List, [], _∷_}
 use native.Mathlib.Omega.{arith}
 use lib.Dec.{eqb}
-use lib.ListN.{length}
-use borrow.Author.Tests.{ne-eqb}
+use lib.ListN.{length, take, getD}
+use borrow.Author.Tests.{eq-eqb}
+use Rattle.rules.proofs.Cases.{both, clash}
+use Rattle.rules.proofs.Tests.{tested}
 use Rattle.model.specs.declared.Admission.{Admission}
 use Rattle.model.specs.declared.Last.{Last}
-use Rattle.model.specs.Ledger.{isRecent, newestIs}
-use Rattle.ledger.specs.Layout.{admission, newestAs}
-
-pub newestOf : Admission → List Admission → Admission
-newestOf a [] = a
-newestOf a (b ∷ l) = newestOf b l
-
-pub newest-end : (a : Admission) → newestOf a [] ≡ a
-unfolding newestOf
-newest-end a = refl
-
-pub newest-next : (a b : Admission) (l : List Admission) → newestOf a (b ∷ l) ≡ newestOf b l
-unfolding newestOf
-newest-next a b l = refl
+use Rattle.model.specs.Ledger.{spacing, newestIs}
+use Rattle.model.proofs.Aging.{AllNoted}
+use Rattle.ledger.specs.Layout.{unit, ageIn, ontimeIn, admissionIn, readFrom}
+use Rattle.ledger.proofs.Sound.{InTime}
 
 abbrev isLast : Last → Admission → Bool
 isLast last a = eqb (a .at) (last .at) && eqb (a .ontime) (last .ontime)
 
-newest-walked : (last : Last) (a : Admission) (l : List Admission) → newestIs last (a ∷ l) ≡ isLast last (newestOf a l)
-unfolding newestIs newestOf
-newest-walked last a [] = refl
-newest-walked last a (b ∷ l) = newest-walked last b l
+pub newest-past : (profile now earliest : ℕ) (last : Last) (es : List Admission) → AllNoted profile now earliest es
+    → newestIs last es ≡ true → last .at ≤ now
+unfolding newestIs
+newest-past profile now earliest last [] h n = clash (cc)
+newest-past profile now earliest last (a ∷ []) h n =
+    let same = both (eqb (a .at) (last .at)) (eqb (a .ontime) (last .ontime)) n in omega (tested, h .0 .past, same .0)
+newest-past profile now earliest last (a ∷ b ∷ es) h n = newest-past profile now (a .at + spacing) last (b ∷ es) (h .1) n
 
-by-length : (last : Last) (l : List Admission)
-    → newestIs last l ≡ not (eqb (length l) 0) && isLast last (newestOf (admission 0 0) l)
-unfolding newestIs newestOf
-by-length last [] = refl
-by-length last (b ∷ l) =
-    let e : eqb (suc (length l)) 0 ≡ false = ne-eqb (suc (length l)) 0 (λ z. omega arith) in
-    newest-walked last b l ∙ rw e
+module _ (last : Last) (base : ℕ) where
+  newest-read : (ws : List ℕ) (m : ℕ) → m < length ws
+      → newestIs last (readFrom base (take (suc m) ws)) ≡ isLast last (admissionIn base (getD ws m 0))
+  unfolding newestIs
+  newest-read [] m h = absurd (omega (arith, h))
+  newest-read (w ∷ ws) zero h = refl
+  newest-read (w ∷ []) (suc m) h = absurd (omega (arith, h))
+  newest-read (w ∷ v ∷ ws) (suc m) h = newest-read (v ∷ ws) m (omega (arith, h))
 
-pub newest-rule : (now : ℕ) (last : Last) (l : List Admission) (n : ℕ) (a : Admission) → length l ≡ n
-    → newestOf (admission 0 0) l ≡ a
-    → cond (isRecent now last) (newestIs last l) (eqb (length l) 0) ≡ newestAs now last n a
-unfolding newestAs
-newest-rule now last l n a m e =
-    rw (← m, ← e) (ap (λ (u : Bool). cond (isRecent now last) u (eqb (length l) 0)) (by-length last l))
+  in-time-at : (ws : List ℕ) (m : ℕ) → m < length ws → InTime base (take (suc m) ws) → ageIn (getD ws m 0) ≤ base
+  in-time-at [] m h t = absurd (omega (arith, h))
+  in-time-at (w ∷ ws) zero h t = t .0
+  in-time-at (w ∷ ws) (suc m) h t = in-time-at ws m (omega (arith, h)) (t .1)
+
+last-place : (ws : List ℕ) (m : ℕ) → getD ws (suc m - 1) 0 ≡ getD ws m 0
+last-place ws m = ap (λ (j : ℕ). getD ws j 0) (omega arith)
+
+pub newest-word : (last : Last) (ws : List ℕ) (n : ℕ) → 0 < n → n ≤ length ws → InTime (last .at) (take n ws)
+    → newestIs last (readFrom (last .at) (take n ws)) ≡ true → (getD ws (n - 1) 0 ≡ last .ontime) × (last .ontime < unit)
+newest-word last ws zero z h t e = absurd (omega (arith, z))
+newest-word last ws (suc m) z h t e =
+    let w = getD ws m 0 in
+    let r = rw (newest-read last (last .at) ws m (omega (arith, h))) at e in
+    let s = both (eqb (last .at - ageIn w) (last .at)) (eqb (ontimeIn w) (last .ontime)) r in
+    let a = in-time-at last (last .at) ws m (omega (arith, h)) t in
+    (omega (tested, last-place ws m, s .0, s .1, a), omega (tested, s .1))
+
+-- and where its word is that, it is the last admission
+pub word-newest : (last : Last) (ws : List ℕ) (n : ℕ) → 0 < n → n ≤ length ws → getD ws (n - 1) 0 ≡ last .ontime
+    → last .ontime < unit → newestIs last (readFrom (last .at) (take n ws)) ≡ true
+word-newest last ws zero z h e u = absurd (omega (arith, z))
+word-newest last ws (suc m) z h e u =
+    let w = getD ws m 0 in
+    newest-read last (last .at) ws m (omega (arith, h))
+    ∙ rw (
+      eq-eqb (last .at - ageIn w) (last .at) (omega (arith, last-place ws m, e, u)),
+      eq-eqb (ontimeIn w) (last .ontime) (omega (arith, last-place ws m, e, u)),
+    )

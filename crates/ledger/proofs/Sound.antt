@@ -1,107 +1,81 @@
--- A tidy ledger is packed, since the zeros of its unused places are those of `packed`; and the rules of a sound ledger, one by
--- one.
-use Prim.Native.Nat.{ℕ, zero, suc, _≤_, _<_}
+-- A tidy ledger is packed: the zeros of its unused places are those of `packed`, and a word no older than the base has time is
+-- that of its admission. What is known of a sound ledger.
+use Prim.Native.Nat.{ℕ, _≤_}
 use mathlib.Core.Path.{_≡_, refl, ap, sym, _∙_}
-use mathlib.Core.Bool.{Bool, true, false, cond, _&&_, and-false}
+use mathlib.Core.Bool.{true}
 use mathlib.Core.List.{List, [], _∷_, map}
 use native.Mathlib.Omega.{arith}
-use lib.Dec.{leb, ltb, eqb}
-use lib.ListN.{length, take, drop}
-use borrow.Author.Tests.{eqb-true, leb-true, le-leb, lt-leb}
-use Rattle.rules.specs.Profiles.{profile3}
+use lib.Dec.{leb}
+use lib.ListN.{take, drop}
+use borrow.Author.Tests.{eqb-true, leb-true}
 use Rattle.rules.proofs.Cases.{both}
-use Rattle.rules.proofs.Profiles.{ontime-le}
-use Rattle.rules.proofs.Tests.{tested, all-true}
 use Rattle.rules.specs.Tests.{allOf}
 use Rattle.packing.specs.Packing.{allAre, padded, isUnused}
 use Rattle.packing.proofs.Packing.{padded-filled}
 use Rattle.model.specs.declared.Admission.{Admission}
 use Rattle.model.specs.declared.Last.{Last}
-use Rattle.model.specs.Ledger.{mostAir, places, airOf, admissionRules, spacedOut, isRecent, newestIs}
+use Rattle.model.specs.Claims.{All}
+use Rattle.model.specs.Ledger.{places, ledgerRules}
+use Rattle.model.proofs.SoundLedger.{SoundLedger, test-ledger}
 use Rattle.ledger.specs.declared.Ledger.{Ledger}
-use Rattle.ledger.specs.Layout.{pairs, items, inPlaces, packed, Packed, tidy, soundLedger, Forty}
-use Rattle.ledger.proofs.Walk.{length-pairs}
+use Rattle.ledger.specs.Layout.{ageIn, wordOf, readFrom, items, inPlaces, packed, Packed, inTime, tidy, soundLedger, Forty}
+use Rattle.ledger.proofs.Word.{read-word}
+use Rattle.ledger.proofs.Walk.{length-read}
 
--- an admission within its limits
-pub sound-at : (profile now earliest : ℕ) (a : Admission) → allOf (admissionRules profile now earliest a) ≡ true
-    → (a .at ≤ now) × (a .ontime ≤ profile3 .limits .ontime) × (earliest ≤ a .at)
-sound-at profile now earliest a e =
-    let h = all-true (admissionRules profile now earliest a) e in
-    (omega (tested, h .1 .0), ontime-le profile (a .ontime) (h .1 .1 .1 .0), omega (tested, h .0))
+-- words no older than the base has time are those of their admissions
+abbrev pub InTime : (base : ℕ) → List ℕ → Type 0
+InTime base ws = All (λ (w : ℕ). ageIn w ≤ base) ws
 
--- a tidy ledger is what its admissions say
-pub times-of : (n : ℕ) (ats ontimes : List ℕ) → n ≤ length ats → n ≤ length ontimes
-    → map (λ (a : Admission). a .at) (pairs n ats ontimes) ≡ take n ats
-unfolding pairs
-times-of zero ats ontimes h k = refl
-times-of (suc n) [] ontimes h k = absurd (omega arith)
-times-of (suc n) (a ∷ ats) [] h k = absurd (omega arith)
-times-of (suc n) (a ∷ ats) (o ∷ ontimes) h k =
-    ap (λ (x : List ℕ). a ∷ x) (times-of n ats ontimes (omega arith) (omega arith))
+pub in-time : (base : ℕ) (ws : List ℕ) → allAre (λ (w : ℕ). inTime base w) ws ≡ true → InTime base ws
+unfolding allAre
+in-time base [] h = tt
+in-time base (w ∷ ws) h =
+    let b = both (inTime base w) (allAre (λ (x : ℕ). inTime base x) ws) h in
+    (leb-true (ageIn w) base (b .0), in-time base ws (b .1))
 
-pub ontimes-of : (n : ℕ) (ats ontimes : List ℕ) → n ≤ length ats → n ≤ length ontimes
-    → map (λ (a : Admission). a .ontime) (pairs n ats ontimes) ≡ take n ontimes
-unfolding pairs
-ontimes-of zero ats ontimes h k = refl
-ontimes-of (suc n) [] ontimes h k = absurd (omega arith)
-ontimes-of (suc n) (a ∷ ats) [] h k = absurd (omega arith)
-ontimes-of (suc n) (a ∷ ats) (o ∷ ontimes) h k =
-    ap (λ (x : List ℕ). o ∷ x) (ontimes-of n ats ontimes (omega arith) (omega arith))
+pub words-of : (base : ℕ) (ws : List ℕ) → InTime base ws → map (λ (a : Admission). wordOf base a) (readFrom base ws) ≡ ws
+words-of base [] h = refl
+words-of base (w ∷ ws) h = λ i. read-word base w (h .0) i ∷ words-of base ws (h .1) i
 
--- a tidy ledger is no longer than its room
-pub tidy-length : (l : Ledger) → tidy l ≡ true → l .len ≤ places
-unfolding tidy padded
-tidy-length l h =
-    leb-true (l .len) places
-    (both (leb (l .len) places) (allAre isUnused (drop (l .len) (l .ats)))
-    (both (padded isUnused places (l .len) (l .ats)) (padded isUnused places (l .len) (l .ontimes)) h .0) .0)
+pub same-ledger : (l r : Ledger) → l .len ≡ r .len → l .slots ≡ r .slots → l ≡ r
+same-ledger l r e f = λ i. record { len = e i; slots = f i }
 
-same : (l r : Ledger) → l .len ≡ r .len → l .ats ≡ r .ats → l .ontimes ≡ r .ontimes → l ≡ r
-same l r e f g = λ i. record { len = e i; ats = f i; ontimes = g i }
+-- a tidy ledger: no longer than its room, and what its admissions say
+module _ (base : ℕ) (l : Ledger) (h : tidy base l ≡ true) where
+  parts : (padded isUnused places (l .len) (l .slots) ≡ true)
+      × (allAre (λ (w : ℕ). inTime base w) (take (l .len) (l .slots)) ≡ true)
+  unfolding tidy
+  parts =
+      both (padded isUnused places (l .len) (l .slots)) (allAre (λ (w : ℕ). inTime base w) (take (l .len) (l .slots))) h
 
-pub tidy-packed : (l : Ledger) → Forty (l .ats) → Forty (l .ontimes) → tidy l ≡ true → Packed l
-unfolding tidy packed
-tidy-packed l a o h =
-    let b = both (padded isUnused places (l .len) (l .ats)) (padded isUnused places (l .len) (l .ontimes)) h in
-    let m = tidy-length l h in
-    let unused : (n : ℕ) → isUnused n ≡ true → n ≡ 0 = λ n e. eqb-true n 0 e in
-    same l _
-    (sym (length-pairs (l .len) (l .ats) (l .ontimes) (omega arith) (omega arith)))
-    (padded-filled places 0 isUnused unused (l .len) (l .ats) a (b .0)
-    ∙ ap inPlaces (sym (times-of (l .len) (l .ats) (l .ontimes) (omega arith) (omega arith))))
-    (padded-filled places 0 isUnused unused (l .len) (l .ontimes) o (b .1)
-    ∙ ap inPlaces (sym (ontimes-of (l .len) (l .ats) (l .ontimes) (omega arith) (omega arith))))
+  pub tidy-length : l .len ≤ places
+  unfolding padded
+  tidy-length =
+      leb-true (l .len) places (both (leb (l .len) places) (allAre isUnused (drop (l .len) (l .slots))) (parts .0) .0)
 
--- each rule that is broken makes a ledger unsound
-module _ (profile now : ℕ) (last : Last) (l : Ledger) where
-  pub too-long : places < l .len → soundLedger profile now last l ≡ false
-  unfolding soundLedger tidy padded
-  too-long h = rw (lt-leb (l .len) places h)
+  pub tidy-in-time : InTime base (take (l .len) (l .slots))
+  tidy-in-time = in-time base (take (l .len) (l .slots)) (parts .1)
 
-  pub not-spaced : spacedOut profile now 0 (items l) ≡ false → soundLedger profile now last l ≡ false
+  pub tidy-packed : Forty (l .slots) → Packed base l
+  unfolding packed
+  tidy-packed f =
+      let m = tidy-length in
+      let unused : (n : ℕ) → isUnused n ≡ true → n ≡ 0 = λ n e. eqb-true n 0 e in
+      same-ledger l _ (sym (length-read base (l .len) (l .slots) (omega arith)))
+      (padded-filled places 0 isUnused unused (l .len) (l .slots) f (parts .0)
+      ∙ ap inPlaces (sym (words-of base (take (l .len) (l .slots)) tidy-in-time)))
+
+-- a sound ledger is tidy, over the last admission, and the model's rules hold of its admissions
+module _ (profile now : ℕ) (last : Last) (l : Ledger) (e : soundLedger profile now last l ≡ true) where
+  pub sound-tidy : tidy (last .at) l ≡ true
   unfolding soundLedger
-  not-spaced e = rw (e, and-false)
+  sound-tidy = both (tidy (last .at) l) (allOf (ledgerRules profile now last (items (last .at) l))) e .0
 
-  pub too-much : mostAir < airOf (items l) → soundLedger profile now last l ≡ false
+  pub sound-rules : SoundLedger profile now last (items (last .at) l)
   unfolding soundLedger
-  too-much h = rw (lt-leb (airOf (items l)) mostAir h, and-false, and-false)
+  sound-rules =
+      test-ledger profile now last (items (last .at) l)
+      (both (tidy (last .at) l) (allOf (ledgerRules profile now last (items (last .at) l))) e .1)
 
-  abbrev pub newestRule : Bool
-  newestRule = cond (isRecent now last) (newestIs last (items l)) (eqb (length (items l)) 0)
-
-  pub not-newest : newestRule ≡ false → soundLedger profile now last l ≡ false
-  unfolding soundLedger
-  not-newest e = rw (e, and-false, and-false, and-false)
-
-  -- all else being well, it goes by the unused room
-  pub by-zeros : l .len ≤ places → spacedOut profile now 0 (items l) ≡ true → airOf (items l) ≤ mostAir → newestRule ≡ true
-      → soundLedger profile now last l
-      ≡ (allAre isUnused (drop (l .len) (l .ats)) && allAre isUnused (drop (l .len) (l .ontimes)))
-  unfolding soundLedger tidy padded
-  by-zeros h s a n =
-      rw (le-leb (l .len) places h, s, le-leb (airOf (items l)) mostAir a, n)
-      (and-true (allAre isUnused (drop (l .len) (l .ats)) && allAre isUnused (drop (l .len) (l .ontimes))))
-    where
-      and-true : (u : Bool) → (u && true) ≡ u
-      and-true true = refl
-      and-true false = refl
+  pub sound-packed : Forty (l .slots) → Packed (last .at) l
+  sound-packed f = tidy-packed (last .at) l sound-tidy f

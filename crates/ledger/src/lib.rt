@@ -1,60 +1,67 @@
-// The ledger, the admissions of the last second in forty places: sound, aged, noted, and how long until the
-// air allows a packet. Times and on-times are two arrays of numbers, so that each is lent where it lies: a
-// ledger is never copied.
+// The ledger, the admissions of the last second in forty words: sound, aged, noted, and how long until the
+// air allows a packet. A word is how long before the last admission its own came, times 4,096, plus its
+// on-time; so a ledger is one array of numbers, lent where it lies and never copied.
 ghost use mathlib.Core.Path.{_≡_};
-ghost use mathlib.Core.Bool.{_&&_};
 ghost use mathlib.Core.List.{[]};
 ghost use Prim.Native.Nat.{_<_, _≤_, _+_, _-_};
+ghost use lib.Dec.{leb, eqb};
 ghost use lib.ListN.{take, drop};
-ghost use Rattle.rules.specs.Tests.{allOf};
 ghost use Rattle.rules.specs.Clock.{endOfTime};
 ghost use Rattle.packing.specs.Packing.{allAre, isUnused};
-ghost use Rattle.model.specs.Ledger.{fullAge, mostAir, youngAt, airOf, allowedFrom};
-ghost use Rattle.model.specs.Ledger.{admissionRules, isRecent};
-ghost use Rattle.ledger.specs.Layout.{pairs, packed, ledgerOf, soundLedger, youngFrom};
-ghost use Rattle.ledger.specs.Layout.{newestAs, agedIn, inPlaces, withoutOldest, putAt, added, Timely};
-ghost use Rattle.ledger.specs.Layout.{Forty};
-use model::Admission;
+ghost use Rattle.model.specs.Ledger.{mostAir, youngAt, airOf, allowedFrom, isRecent};
+ghost use Rattle.ledger.specs.Layout.{ageIn, ontimeIn, readFrom, packed, ledgerOf, soundLedger};
+ghost use Rattle.ledger.specs.Layout.{youngFrom, wellKept, agedIn, inPlaces, withoutOldest};
+ghost use Rattle.ledger.specs.Layout.{putNewest, Movable, added, Timely, Forty};
 use model::Last;
 
-// The first `len` places hold the admissions, the oldest first; the others are zero.
+// The first `len` words hold the admissions, the oldest first; the others are zero.
 #[repr(C)]
 pub struct Ledger {
     pub len: usize,
-    pub ats: [u64; 40],
-    pub ontimes: [u32; 40],
+    pub slots: [u32; 40],
 }
 
 pub const FULL_AGE: u64 = 1000000;
 
 pub const MOST_AIR: u64 = 30000;
 
-pub const SPACING: u64 = 25000;
+pub const SPACING: u32 = 25000;
 
-// A ledger without admissions.
+pub const UNIT: u32 = 4096;
+
+// A ledger without admissions, whatever the base.
 pub fn empty() -> Ledger
-    ensures { λ r. ⌜ r ≡ packed [] ⌝ }
+    ensures { λ r. ⌜ r ≡ packed 0 [] ⌝ }
 {
     Ledger {
         len: 0,
-        ats: [0; 40],
-        ontimes: [0; 40],
+        slots: [0; 40],
     }
 }
 
-// Whether an admission is within its limits and came no earlier than the gap behind the one before it
-// allows. What comes no earlier than that is young, so its age is not looked at.
-fn is_admission_sound(a: Admission, profile: u32, time: u64, earliest: u64) -> bool
-    requires { ⌜ time < earliest + fullAge ⌝ }
-    ensures { λ r. ⌜ r ≡ allOf (admissionRules profile time earliest a) ⌝ }
+// How long before the base a word's admission came: what 32 bits leave for it is 20.
+fn age_in(word: u32) -> u32
+    ensures { λ r. ⌜ (r ≡ ageIn word) × (r < 1048576) ⌝ }
 {
-    if a.at < earliest {
-        return false;
+    word / UNIT
+}
+
+// A word's on-time.
+fn ontime_in(word: u32) -> u32
+    ensures { λ r. ⌜ r ≡ ontimeIn word ⌝ }
+{
+    word % UNIT
+}
+
+// When a word's admission came.
+fn time_in(base: u64, word: u32) -> u64
+    ensures { λ r. ⌜ r ≡ base - ageIn word ⌝ }
+{
+    let age = age_in(word) as u64;
+    if base < age {
+        return 0;
     }
-    if time < a.at {
-        return false;
-    }
-    rules::allows_ontime(profile, a.ontime)
+    base - age
 }
 
 // The earliest time at which an admission is young.
@@ -87,95 +94,143 @@ fn is_recent(last: Last, time: u64) -> bool
     is_young(last.at, time)
 }
 
-// Whether the newest of so many admissions is the last one where that is recent, and there is none where it
-// isn't.
-fn is_newest(n: usize, newest: Admission, last: Last, time: u64) -> bool
-    ensures { λ r. ⌜ r ≡ newestAs time last n newest ⌝ }
-{
-    if !is_recent(last, time) {
-        return n == 0;
-    }
-    if n == 0 {
-        return false;
-    }
-    if newest.at != last.at {
-        return false;
-    }
-    newest.ontime == last.ontime
-}
-
 // Whether the places past the admissions are zero. All are read, with no way out before the end, so that many
 // are read at once.
-fn is_rest_zero<'a>(n: usize, ats: &'a [u64; 40], ontimes: &'a [u32; 40]) -> bool
-    requires { ⌜ Forty (now ats) × Forty (now ontimes) ⌝ }
+fn is_rest_zero(n: usize, slots: &[u32; 40]) -> bool
+    requires { ⌜ Forty (now slots) ⌝ }
     requires { ⌜ n ≤ 40 ⌝ }
-    ensures { λ r. ⌜ r ≡ (allAre isUnused (drop n (now (ats .entry)))
-        && allAre isUnused (drop n (now (ontimes .entry)))) ⌝ }
+    ensures { λ r. ⌜ r ≡ allAre isUnused (drop n (now (slots .entry))) ⌝ }
 {
-    let mut bits: u64 = 0;
-    let mut more: u32 = 0;
+    let mut bits: u32 = 0;
     let mut j = n;
     while j < 40 {
-        bits = bits | ats[j];
-        more = more | ontimes[j];
+        bits = bits | slots[j];
         j += 1;
+    }
+    bits == 0
+}
+
+// 1 where a number is above another, else 0.
+fn above(a: u32, b: u32) -> u32
+    ensures { λ r. ⌜ eqb r 0 ≡ leb a b ⌝ }
+{
+    if b < a {
+        return 1;
+    }
+    0
+}
+
+// Whether the first n words are in step and their air time is allowed. All are read, with no way out before
+// the end, so that four are read at once.
+fn are_many_kept(n: usize, slots: &[u32; 40], first: u32, most: u32) -> bool
+    requires { ⌜ Forty (now slots) ⌝ }
+    requires { ⌜ n ≤ 40 ⌝ }
+    ensures { λ r. ⌜ r ≡ wellKept first most (take n (now (slots .entry))) ⌝ }
+{
+    let mut bits: u32 = 0;
+    let mut before = first;
+    let mut air: u32 = 0;
+    let mut i: usize = 0;
+    while i < n {
+        let word = slots[i];
+        let age = age_in(word);
+        let ontime = ontime_in(word);
+        bits = bits | above(age + SPACING, before) | above(1, ontime) | above(ontime, most);
+        before = age;
+        air += ontime;
+        i += 1;
     }
     if bits != 0 {
         return false;
     }
-    more == 0
+    air as u64 <= MOST_AIR
 }
 
-// Whether a ledger is sound.
-pub fn is_sound<'a>(
-    n: usize,
-    ats: &'a [u64; 40],
-    ontimes: &'a [u32; 40],
-    profile: u32,
-    time: u64,
-    last: Last,
-) -> bool
-    requires { ⌜ Forty (now ats) × Forty (now ontimes) ⌝ }
-    requires { ⌜ time ≤ endOfTime ⌝ }
-    ensures { λ r. ⌜ r ≡ soundLedger profile time last
-        (ledgerOf n (now (ats .entry)) (now (ontimes .entry))) ⌝ }
+// The same, of a few words: for these one after the other, up to the first that is not in step, is faster.
+fn are_few_kept(n: usize, slots: &[u32; 40], first: u32, most: u32) -> bool
+    requires { ⌜ Forty (now slots) ⌝ }
+    requires { ⌜ n ≤ 40 ⌝ }
+    ensures { λ r. ⌜ r ≡ wellKept first most (take n (now (slots .entry))) ⌝ }
 {
-    if 40 < n {
-        return false;
-    }
-    let mut newest = Admission { at: 0, ontime: 0 };
-    let mut earliest = young_from(time);
+    let mut before = first;
     let mut air: u32 = 0;
     let mut i: usize = 0;
     while i < n {
-        let at = ats[i];
-        let ontime = ontimes[i];
-        newest = Admission { at, ontime };
-        if !is_admission_sound(newest, profile, time, earliest) {
+        let word = slots[i];
+        let age = age_in(word);
+        let ontime = ontime_in(word);
+        if before < age + SPACING {
             return false;
         }
-        earliest = at + SPACING;
+        if !rules::lies_within(1, most, ontime) {
+            return false;
+        }
+        before = age;
         air += ontime;
         i += 1;
     }
-    if MOST_AIR < air as u64 {
+    air as u64 <= MOST_AIR
+}
+
+// Whether the first n words are in step and their air time is allowed.
+fn is_well_kept(n: usize, slots: &[u32; 40], first: u32, most: u32) -> bool
+    requires { ⌜ Forty (now slots) ⌝ }
+    requires { ⌜ n ≤ 40 ⌝ }
+    ensures { λ r. ⌜ r ≡ wellKept first most (take n (now (slots .entry))) ⌝ }
+{
+    if n < 10 {
+        return are_few_kept(n, slots, first, most);
+    }
+    are_many_kept(n, slots, first, most)
+}
+
+// Whether a ledger is sound. Its base is the time of the last admission, which is the newest, so its word is
+// just its on-time. The first word may be as old as is young now, and the others follow in step.
+pub fn is_sound(n: usize, slots: &[u32; 40], profile: u32, time: u64, last: Last) -> bool
+    requires { ⌜ Forty (now slots) ⌝ }
+    requires { ⌜ time ≤ endOfTime ⌝ }
+    ensures { λ r. ⌜ r ≡ soundLedger profile time last (ledgerOf n (now (slots .entry))) ⌝ }
+{
+    if n == 0 {
+        if is_recent(last, time) {
+            return false;
+        }
+        return is_rest_zero(0, slots);
+    }
+    if 40 < n {
         return false;
     }
-    if !is_newest(n, newest, last, time) {
+    if !is_recent(last, time) {
         return false;
     }
-    is_rest_zero(n, ats, ontimes)
+    if time < last.at {
+        return false;
+    }
+    let newest = slots[n - 1];
+    if newest != last.ontime {
+        return false;
+    }
+    if UNIT <= newest {
+        return false;
+    }
+    let first = (last.at - young_from(time)) as u32 + SPACING;
+    let most = rules::most_ontime(profile);
+    if !is_well_kept(n, slots, first, most) {
+        return false;
+    }
+    is_rest_zero(n, slots)
 }
 
 // How many have aged before the first that is young.
-pub fn count_aged(n: usize, ats: &[u64; 40], time: u64) -> usize
-    requires { ⌜ Forty (now ats) ⌝ }
+pub fn count_aged(n: usize, slots: &[u32; 40], base: u64, time: u64) -> usize
+    requires { ⌜ Forty (now slots) ⌝ }
     requires { ⌜ n ≤ 40 ⌝ }
-    ensures { λ r. ⌜ r ≡ agedIn time (take n (now (ats .entry))) ⌝ }
+    ensures { λ r. ⌜ r ≡ agedIn time base (take n (now (slots .entry))) ⌝ }
 {
     let mut k: usize = 0;
     while k < n {
-        if is_young(ats[k], time) {
+        let at = time_in(base, slots[k]);
+        if is_young(at, time) {
             return k;
         }
         k += 1;
@@ -183,37 +238,24 @@ pub fn count_aged(n: usize, ats: &[u64; 40], time: u64) -> usize
     k
 }
 
-// Zeros behind the first n times.
-fn clear_times(n: usize, ats: &mut [u64; 40])
-    requires { ⌜ Forty (now ats) ⌝ }
+// Zeros behind the first n words.
+fn clear(n: usize, slots: &mut [u32; 40])
+    requires { ⌜ Forty (now slots) ⌝ }
     requires { ⌜ n ≤ 40 ⌝ }
-    ensures { λ _. ⌜ now (ats .exit) ≡ inPlaces (take n (now (ats .entry))) ⌝ }
+    ensures { λ _. ⌜ now (slots .exit) ≡ inPlaces (take n (now (slots .entry))) ⌝ }
 {
     let mut i = n;
     while i < 40 {
-        ats[i] = 0;
+        slots[i] = 0;
         i += 1;
     }
 }
 
-// Zeros behind the first n on-times.
-fn clear_ontimes(n: usize, ontimes: &mut [u32; 40])
-    requires { ⌜ Forty (now ontimes) ⌝ }
-    requires { ⌜ n ≤ 40 ⌝ }
-    ensures { λ _. ⌜ now (ontimes .exit) ≡ inPlaces (take n (now (ontimes .entry))) ⌝ }
-{
-    let mut i = n;
-    while i < 40 {
-        ontimes[i] = 0;
-        i += 1;
-    }
-}
-
-// The n times without the k oldest; where k is 0 nothing is looked at.
-pub fn drop_times(n: usize, ats: &mut [u64; 40], k: usize)
-    requires { ⌜ Forty (now ats) ⌝ }
+// The n words without the k oldest; where k is 0 nothing is looked at.
+pub fn drop_oldest(n: usize, slots: &mut [u32; 40], k: usize)
+    requires { ⌜ Forty (now slots) ⌝ }
     requires { ⌜ (0 < k → (n ≤ 40) × (k ≤ n)) ⌝ }
-    ensures { λ _. ⌜ now (ats .exit) ≡ withoutOldest n k (now (ats .entry)) ⌝ }
+    ensures { λ _. ⌜ now (slots .exit) ≡ withoutOldest n k (now (slots .entry)) ⌝ }
 {
     if k == 0 {
         return;
@@ -221,83 +263,54 @@ pub fn drop_times(n: usize, ats: &mut [u64; 40], k: usize)
     let rest = n - k;
     let mut i: usize = 0;
     while i < rest {
-        ats[i] = ats[i + k];
+        slots[i] = slots[i + k];
         i += 1;
     }
-    clear_times(rest, ats);
+    clear(rest, slots);
 }
 
-// The n on-times without the k oldest; where k is 0 nothing is looked at.
-pub fn drop_ontimes(n: usize, ontimes: &mut [u32; 40], k: usize)
-    requires { ⌜ Forty (now ontimes) ⌝ }
-    requires { ⌜ (0 < k → (n ≤ 40) × (k ≤ n)) ⌝ }
-    ensures { λ _. ⌜ now (ontimes .exit) ≡ withoutOldest n k (now (ontimes .entry)) ⌝ }
+// An admission noted behind n, a gap after the last one, unless `more` is 0. It is the base from then on, so
+// the others are older by the gap.
+pub fn put_newest(n: usize, slots: &mut [u32; 40], gap: u64, ontime: u32, more: usize)
+    requires { ⌜ Forty (now slots) ⌝ }
+    requires { ⌜ (0 < more → (n < 40) × Movable gap (take n (now slots))) ⌝ }
+    ensures { λ _. ⌜ now (slots .exit) ≡ putNewest more n gap ontime (now (slots .entry)) ⌝ }
 {
-    if k == 0 {
+    if more == 0 {
         return;
     }
-    let rest = n - k;
     let mut i: usize = 0;
-    while i < rest {
-        ontimes[i] = ontimes[i + k];
+    while i < n {
+        slots[i] = slots[i] + gap as u32 * UNIT;
         i += 1;
     }
-    clear_ontimes(rest, ontimes);
-}
-
-// A time noted behind n, unless `more` is 0.
-pub fn put_time(n: usize, ats: &mut [u64; 40], at: u64, more: usize)
-    requires { ⌜ (0 < more → n < 40) ⌝ }
-    ensures { λ _. ⌜ now (ats .exit) ≡ putAt more n at (now (ats .entry)) ⌝ }
-{
-    if more == 0 {
-        return;
-    }
-    ats[n] = at;
-}
-
-// An on-time noted behind n, unless `more` is 0.
-pub fn put_ontime(n: usize, ontimes: &mut [u32; 40], ontime: u32, more: usize)
-    requires { ⌜ (0 < more → n < 40) ⌝ }
-    ensures { λ _. ⌜ now (ontimes .exit) ≡ putAt more n ontime (now (ontimes .entry)) ⌝ }
-{
-    if more == 0 {
-        return;
-    }
-    ontimes[n] = ontime;
+    slots[n] = ontime;
 }
 
 // The on-times added.
-fn air_of(n: usize, ontimes: &[u32; 40]) -> u32
-    requires { ⌜ Forty (now ontimes) ⌝ }
+fn air_of(n: usize, slots: &[u32; 40]) -> u32
+    requires { ⌜ Forty (now slots) ⌝ }
     requires { ⌜ n ≤ 40 ⌝ }
-    requires { ⌜ added (take n (now ontimes)) ≤ mostAir ⌝ }
-    ensures { λ r. ⌜ r ≡ added (take n (now (ontimes .entry))) ⌝ }
+    requires { ⌜ added (take n (now slots)) ≤ mostAir ⌝ }
+    ensures { λ r. ⌜ r ≡ added (take n (now (slots .entry))) ⌝ }
 {
     let mut sum: u32 = 0;
     let mut i: usize = 0;
     while i < n {
-        sum += ontimes[i];
+        sum += ontime_in(slots[i]);
         i += 1;
     }
     sum
 }
 
 // The time from which the air allows a packet, where `sum` is that of the admissions.
-fn allowed_from<'a>(
-    n: usize,
-    ats: &'a [u64; 40],
-    ontimes: &'a [u32; 40],
-    sum: u32,
-    ontime: u32,
-    time: u64,
-) -> u64
-    requires { ⌜ Forty (now ats) × Forty (now ontimes) ⌝ }
+fn allowed_from(n: usize, slots: &[u32; 40], base: u64, sum: u32, ontime: u32, time: u64) -> u64
+    requires { ⌜ Forty (now slots) ⌝ }
     requires { ⌜ n ≤ 40 ⌝ }
-    requires { ⌜ sum ≡ airOf (pairs n (now ats) (now ontimes)) ⌝ }
+    requires { ⌜ sum ≡ airOf (readFrom base (take n (now slots))) ⌝ }
     requires { ⌜ sum ≤ mostAir ⌝ }
-    requires { ⌜ Timely (pairs n (now ats) (now ontimes)) ⌝ }
-    ensures { λ r. ⌜ r ≡ allowedFrom ontime time (pairs n (now (ats .entry)) (now (ontimes .entry))) ⌝ }
+    requires { ⌜ Timely (readFrom base (take n (now slots))) ⌝ }
+    ensures { λ r. ⌜ r ≡ allowedFrom ontime time (readFrom base (take n (now (slots .entry)))) ⌝ }
 {
     let mut rest = sum as u64 + ontime as u64;
     let mut from = time;
@@ -306,30 +319,24 @@ fn allowed_from<'a>(
         if rest <= MOST_AIR {
             return from;
         }
-        from = ats[i] + FULL_AGE;
-        rest -= ontimes[i] as u64;
+        let word = slots[i];
+        from = time_in(base, word) + FULL_AGE;
+        rest -= ontime_in(word) as u64;
         i += 1;
     }
     from
 }
 
 // The µs until the air allows a packet.
-pub fn air_left<'a>(
-    n: usize,
-    ats: &'a [u64; 40],
-    ontimes: &'a [u32; 40],
-    ontime: u32,
-    time: u64,
-) -> u64
-    requires { ⌜ Forty (now ats) × Forty (now ontimes) ⌝ }
+pub fn air_left(n: usize, slots: &[u32; 40], base: u64, ontime: u32, time: u64) -> u64
+    requires { ⌜ Forty (now slots) ⌝ }
     requires { ⌜ n ≤ 40 ⌝ }
-    requires { ⌜ airOf (pairs n (now ats) (now ontimes)) ≤ mostAir ⌝ }
-    requires { ⌜ Timely (pairs n (now ats) (now ontimes)) ⌝ }
-    ensures { λ r. ⌜ r ≡ allowedFrom ontime time (pairs n (now (ats .entry)) (now (ontimes .entry)))
-        - time ⌝ }
+    requires { ⌜ airOf (readFrom base (take n (now slots))) ≤ mostAir ⌝ }
+    requires { ⌜ Timely (readFrom base (take n (now slots))) ⌝ }
+    ensures { λ r. ⌜ r ≡ allowedFrom ontime time (readFrom base (take n (now (slots .entry)))) - time ⌝ }
 {
-    let sum = air_of(n, ontimes);
-    let from = allowed_from(n, ats, ontimes, sum, ontime, time);
+    let sum = air_of(n, slots);
+    let from = allowed_from(n, slots, base, sum, ontime, time);
     if from < time {
         return 0;
     }

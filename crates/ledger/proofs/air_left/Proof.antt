@@ -1,30 +1,27 @@
 -- What is left until the air allows the packet, or nothing.
 use mathlib.Core.Path.{_≡_, _∙_, sym}
-use native.Mathlib.Omega.{arith}
 use lib.ListN.{take}
 use borrow.Author.Needs.{needs}
 use Rattle.model.specs.Ledger.{airOf}
-use Rattle.ledger.specs.Layout.{pairs, added}
+use Rattle.ledger.specs.Layout.{readFrom, added}
 use Rattle.ledger.proofs.Meaning.{air-added}
 use Rattle.ledger.proofs.air_left.Statement.{statement}
 use Rattle.ledger.proofs.air_left.Tie as tie
 
 added-air : (c : tie.Start)
-    → (let a = c .args in airOf (pairs (a .n) (a .ats .now) (a .ontimes .now)) ≡ added (take (a .n) (a .ontimes .now)))
-added-air c =
-    air-added (c .args .n) (c .args .ats .now) (c .args .ontimes .now) (omega (arith, c .pre .0 .0, c .pre .1 .0))
-    (omega (arith, c .pre .0 .1, c .pre .1 .0))
+    → (let a = c .args in airOf (readFrom (a .base) (take (a .n) (a .slots .now))) ≡ added (take (a .n) (a .slots .now)))
+added-air c = air-added (c .args .base) (take (c .args .n) (c .args .slots .now))
 
 air-of-requires : tie.Need-air-of-requires
 air-of-requires c κs =
     let a = added-air c in
-    (c .pre .0 .1, (c .pre .1 .0, rw (← a) (c .pre .1 .1 .0)))
+    (c .pre .0, (c .pre .1 .0, rw (← a) (c .pre .1 .1 .0)))
 
 allowed-from-requires : tie.Need-allowed-from-requires
 allowed-from-requires c κs =
     let s = c .before in
     let e = c .air-of .ensures ∙ sym (added-air s) in
-    ((s .pre .0 .0, s .pre .0 .1), (s .pre .1 .0, (e, (rw e (s .pre .1 .1 .0), s .pre .1 .1 .1))))
+    (s .pre .0, (s .pre .1 .0, (e, (rw e (s .pre .1 .1 .0), s .pre .1 .1 .1))))
 
 returns : tie.Need-returns
 returns c = search needs

@@ -10,26 +10,35 @@ use Rattle.ledger.proofs.air_of.Statement.{statement}
 use Rattle.ledger.proofs.air_of.Tie as tie
 
 abbrev Inv-loop : tie.InvT-loop
-Inv-loop n ontimes sum₀ i₀ sum i = (i ≤ n) × (added (take n ontimes) ≡ sum + added (drop i (take n ontimes)))
+Inv-loop n slots sum₀ i₀ sum i = (i ≤ n) × (added (take n slots) ≡ sum + added (drop i (take n slots)))
 
 abbrev μ-loop : tie.MeasureT-loop
-μ-loop n ontimes sum₀ i₀ sum i = n - i
+μ-loop n slots sum₀ i₀ sum i = n - i
 
 loop-holds : tie.Need-loop-holds Inv-loop μ-loop
 loop-holds c = (omega arith, omega arith)
 
-mul-sum : tie.Need-mul-sum Inv-loop μ-loop
-mul-sum c = search needs
+mul-ontime-in : tie.Need-mul-ontime-in Inv-loop μ-loop
+mul-ontime-in c = search needs
 
-element-copy-out-sum : tie.Need-element-copy-out-sum Inv-loop μ-loop
-element-copy-out-sum c = search needs
+element-copy-out-ontime-in : tie.Need-element-copy-out-ontime-in Inv-loop μ-loop
+element-copy-out-ontime-in c = search needs
+
+ontime-in-requires : tie.Need-ontime-in-requires Inv-loop μ-loop
+ontime-in-requires c κs = search needs
+
+-- what the next adds
+adds : (c : tie.After-ontime-in Inv-loop μ-loop) → (let a = c .before .before .before in let s = a .before in
+    added (take (s .args .n) (s .args .slots .now))
+    ≡ a .loop .sum + c .ontime-in .result + added (drop (a .loop .i + 1) (take (s .args .n) (s .args .slots .now))))
+adds c =
+    let a = c .before .before .before in
+    let s = a .before in
+    let e = added-next (s .args .slots .now) (s .args .n) (a .loop .i) (omega (arith, s .pre .0, s .pre .1 .0)) (omega arith) in
+    omega (arith, a .loop .inv .1, e, c .ontime-in .ensures)
 
 add-sum : tie.Need-add-sum Inv-loop μ-loop
-add-sum c =
-    let a = c .before .before in
-    let s = a .before in
-    let e = added-next (s .args .ontimes .now) (s .args .n) (a .loop .i) (omega (arith, s .pre .0, s .pre .1 .0)) (omega arith) in
-    omega (arith, s .pre .1 .1, a .loop .inv .1, e)
+add-sum c = omega (arith, adds c, c .before .before .before .before .pre .1 .1)
 
 add-i : tie.Need-add-i Inv-loop μ-loop
 add-i c = search needs
@@ -38,18 +47,14 @@ loop-less : tie.Need-loop-less Inv-loop μ-loop
 loop-less c = search needs
 
 loop-again : tie.Need-loop-again Inv-loop μ-loop
-loop-again c =
-    let a = c .before .before in
-    let s = a .before in
-    let e = added-next (s .args .ontimes .now) (s .args .n) (a .loop .i) (omega (arith, s .pre .0, s .pre .1 .0)) (omega arith) in
-    (omega arith, omega (arith, a .loop .inv .1, e))
+loop-again c = (omega arith, adds c)
 
 returns : tie.Need-returns Inv-loop μ-loop
 unfolding added
 returns c =
     let a = c .before in
     let s = a .before in
-    let e = done (s .args .ontimes .now) (s .args .n) (a .loop .i) (omega (arith, s .pre .0, s .pre .1 .0)) (omega arith) in
+    let e = done (s .args .slots .now) (s .args .n) (a .loop .i) (omega (arith, s .pre .0, s .pre .1 .0)) (omega arith) in
     omega (arith, a .loop .inv .1, ap added e)
 
 pub air-of-spec : {M : Type 1} → statement M
@@ -59,8 +64,9 @@ air-of-spec =
     Inv-loop
     μ-loop
     loop-holds
-    mul-sum
-    element-copy-out-sum
+    mul-ontime-in
+    element-copy-out-ontime-in
+    ontime-in-requires
     add-sum
     add-i
     loop-less

@@ -10,29 +10,35 @@ use Rattle.ledger.proofs.count_aged.Statement.{statement}
 use Rattle.ledger.proofs.count_aged.Tie as tie
 
 abbrev Inv-loop : tie.InvT-loop
-Inv-loop n ats time k₀ k = (k ≤ n) × (agedIn time (take n ats) ≡ k + agedIn time (drop k (take n ats)))
+Inv-loop n slots base time k₀ k =
+    (k ≤ n) × (agedIn time base (take n slots) ≡ k + agedIn time base (drop k (take n slots)))
 
 abbrev μ-loop : tie.MeasureT-loop
-μ-loop n ats time k₀ k = n - k
+μ-loop n slots base time k₀ k = n - k
 
 loop-holds : tie.Need-loop-holds Inv-loop μ-loop
 loop-holds c = (omega arith, omega arith)
 
-mul-is-young : tie.Need-mul-is-young Inv-loop μ-loop
-mul-is-young c = search needs
+mul-time-in : tie.Need-mul-time-in Inv-loop μ-loop
+mul-time-in c = search needs
 
-element-copy-out-is-young : tie.Need-element-copy-out-is-young Inv-loop μ-loop
-element-copy-out-is-young c = search needs
+element-copy-out-time-in : tie.Need-element-copy-out-time-in Inv-loop μ-loop
+element-copy-out-time-in c = search needs
+
+time-in-requires : tie.Need-time-in-requires Inv-loop μ-loop
+time-in-requires c κs = search needs
 
 is-young-requires : tie.Need-is-young-requires Inv-loop μ-loop
 is-young-requires c κs = search needs
 
 returns : tie.Need-returns Inv-loop μ-loop
 returns c =
-    let a = c .before .before .before .before in
+    let t = c .before .before in
+    let a = t .before .before .before in
     let s = a .before in
-    let e = aged-next (s .args .ats .now) (s .args .n) (a .loop .k) (omega (arith, s .pre .0, s .pre .1)) (s .args .time)
-    (omega arith) in
+    let e =
+    aged-next (s .args .slots .now) (s .args .n) (a .loop .k) (omega (arith, s .pre .0, s .pre .1)) (s .args .time)
+    (s .args .base) (t .time-in .result) (t .time-in .ensures) (omega arith) in
     omega (arith, a .loop .inv .1, e .0 (sym (c .before .is-young .ensures) ∙ c .if1 .taken))
 
 add-k : tie.Need-add-k Inv-loop μ-loop
@@ -43,10 +49,12 @@ loop-less c = search needs
 
 loop-again : tie.Need-loop-again Inv-loop μ-loop
 loop-again c =
-    let a = c .before .before .before .before in
+    let t = c .before .before in
+    let a = t .before .before .before in
     let s = a .before in
-    let e = aged-next (s .args .ats .now) (s .args .n) (a .loop .k) (omega (arith, s .pre .0, s .pre .1)) (s .args .time)
-    (omega arith) in
+    let e =
+    aged-next (s .args .slots .now) (s .args .n) (a .loop .k) (omega (arith, s .pre .0, s .pre .1)) (s .args .time)
+    (s .args .base) (t .time-in .result) (t .time-in .ensures) (omega arith) in
     (omega arith, omega (arith, a .loop .inv .1, e .1 (sym (c .before .is-young .ensures) ∙ c .if1 .left)))
 
 returns-2 : tie.Need-returns-2 Inv-loop μ-loop
@@ -54,8 +62,8 @@ unfolding agedIn
 returns-2 c =
     let a = c .before in
     let s = a .before in
-    let e = done (s .args .ats .now) (s .args .n) (a .loop .k) (omega (arith, s .pre .0, s .pre .1)) (omega arith) in
-    omega (arith, a .loop .inv .1, ap (agedIn (s .args .time)) e)
+    let e = done (s .args .slots .now) (s .args .n) (a .loop .k) (omega (arith, s .pre .0, s .pre .1)) (omega arith) in
+    omega (arith, a .loop .inv .1, ap (agedIn (s .args .time) (s .args .base)) e)
 
 pub count-aged-spec : {M : Type 1} → statement M
 count-aged-spec =
@@ -64,8 +72,9 @@ count-aged-spec =
     Inv-loop
     μ-loop
     loop-holds
-    mul-is-young
-    element-copy-out-is-young
+    mul-time-in
+    element-copy-out-time-in
+    time-in-requires
     is-young-requires
     returns
     add-k

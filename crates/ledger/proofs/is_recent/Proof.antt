@@ -1,5 +1,4 @@
 -- By the tests, one by one.
-use mathlib.Core.Path.{sym}
 use borrow.Author.Needs.{needs}
 use Rattle.rules.proofs.Tests.{tests}
 use Rattle.ledger.proofs.is_recent.Statement.{statement}
