@@ -8,7 +8,6 @@ use lib.ListN.{length, drop}
 use lib.Seq.{length-take-le}
 use Rattle.rules.specs.Profiles.{room}
 use Rattle.rules.proofs.Cases.{both}
-use Rattle.model.specs.Fours.{howMany}
 use Rattle.queue.specs.declared.Queue.{Queue}
 use Rattle.queue.specs.declared.Review.{Review}
 use Rattle.queue.specs.Layout.{items, soundQueue}
@@ -17,7 +16,7 @@ use Rattle.queue.proofs.Reviewing.{and-assoc, seen-fit, seen-waiting, seen-few}
 use Rattle.gate.specs.declared.State.{State}
 use Rattle.gate.specs.declared.Verdict.{Verdict}
 use Rattle.gate.specs.declared.Verdict.the-variants.{Sound, Unsound, Open}
-use Rattle.gate.specs.Layout.{queueAt, listsOf}
+use Rattle.gate.specs.Layout.{queueAt}
 use Rattle.gate.specs.Requests.{soundQueues}
 use Rattle.gate.specs.Plans.{firstToSee}
 use Rattle.gate.proofs.States.{next-queue, no-queue, waitingTo, waiting-more, waiting-none, waiting-all, sound-len}

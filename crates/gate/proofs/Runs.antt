@@ -25,8 +25,8 @@ use Rattle.gate.specs.declared.State.{State}
 use Rattle.gate.specs.declared.Outcome.{Outcome}
 use Rattle.gate.specs.Layout.{viewOf, stateOf, soundState, outcomeOf, callOn, makeState}
 use Rattle.gate.specs.Runs.{RefusedUnchanged, UnsoundGetsNine, checksOn, RefusedExactly}
-use Rattle.gate.specs.Runs.{stateAfter, eventsOn, PollsRight, journalOn, StateRun, Runs}
-use Rattle.gate.proofs.Views.{view-state}
+use Rattle.gate.specs.Runs.{stateAfter, eventsOn, PollsRight, journalOn, Runs}
+use Rattle.gate.proofs.Views.{sound-writable, view-state}
 use Rattle.gate.proofs.Judged.{view-sound}
 
 -- a sound view laid out is a sound state
@@ -34,13 +34,14 @@ pub state-sound : (v : View) → sound v ≡ true → soundState (stateOf v) ≡
 unfolding soundState
 state-sound v e =
     let q = test-view v e .queues in
+    let f = sound-writable v (test-view v e) in
     rw (
       tidy-packed (v .waiting .c0) (q .0 .size),
       tidy-packed (v .waiting .c1) (q .1 .size),
       tidy-packed (v .waiting .c2) (q .2 .size),
       tidy-packed (v .waiting .c3) (q .3 .size),
-      packed-tidy (v .ledger) (forty-are-enough v e),
-      view-state v,
+      packed-tidy (v .last .at) (v .ledger) f (forty-are-enough v e),
+      view-state v f,
     )
     e
 
@@ -54,10 +55,13 @@ call-reads s c e =
     rw e
     (on-cond (Reads w) (isRefused (w .answer))
     (λ r. (sym (refusals-change-nothing (viewOf s) c r), refl, e))
-    (λ r. (view-state (w .view), refl, state-sound (w .view) (calls-keep-sound (viewOf s) c (view-sound s e)))))
+    (λ r. (view-state (w .view) (sound-writable (w .view) (test-view (w .view) kept)), refl, state-sound (w .view) kept)))
   where
     w : Result inQueues
     w = call (viewOf s) c
+
+    kept : sound (w .view) ≡ true
+    kept = calls-keep-sound (viewOf s) c (view-sound s e)
 
 -- a run of states, read as a run of views
 pub record RunReads (s : State) (cs : List Call) : Type 0 where
@@ -116,12 +120,15 @@ make-runs m ready calls =
     n : RunReads (stateOf first) calls
     n = run-reads (stateOf first) calls (state-sound first (begins m ready))
 
+    back : viewOf (stateOf first) ≡ first
+    back = view-state first (sound-writable first (test-view first (begins m ready)))
+
     claimed : Claims (m .profile) (viewOf (stateAfter (stateOf first) calls)) (journalOn m (stateOf first) calls)
     claimed =
         subst⁻¹ (λ (v : View). Claims (m .profile) v (journalOn m (stateOf first) calls))
-        (n .view ∙ ap (λ (v : View). viewAfter v calls) (view-state first))
+        (n .view ∙ ap (λ (v : View). viewAfter v calls) back)
         (subst⁻¹ (λ (l : List (Call × Answer)). Claims (m .profile) (viewAfter first calls) (journalOf (opened (m .stamp)) l))
-        (n .answers ∙ ap (λ (v : View). events v calls) (view-state first)) (demand3 m calls ready))
+        (n .answers ∙ ap (λ (v : View). events v calls) back) (demand3 m calls ready))
 
 -- demand 1 of states: a refusal hands the given state back
 pub refused-unchanged : RefusedUnchanged

@@ -1,5 +1,5 @@
--- The soundness of a state, as its code judges it: first the numbers, then each queue with its padding, last the ledger. A state
--- whose four queues and ledger are packed is laid out.
+-- The soundness of a state, as its code judges it: first the numbers, then the list and the loads, each queue with its padding,
+-- the counts, and last the ledger. A state whose four queues and ledger are packed is laid out.
 use Prim.Native.Nat.{ℕ, zero, suc, _+_, _≤_, _<_}
 use mathlib.Core.Path.{_≡_, refl, ap, sym, _∙_, subst⁻¹}
 use mathlib.Core.Bool.{Bool, true, false, _&&_, and-false, and-true}
@@ -13,7 +13,7 @@ use Rattle.rules.specs.Profiles.{room}
 use Rattle.rules.specs.Clock.{endOfTime, passesEnd}
 use Rattle.rules.proofs.Cases.{split, both}
 use Rattle.rules.specs.Tests.{allOf}
-use Rattle.control.specs.Control.{controlOf, soundControl}
+use Rattle.control.specs.Control.{tuningSound, listingSound, soundControl}
 use Rattle.packing.specs.Packing.{padded}
 use Rattle.model.specs.Fours.{howMany}
 use Rattle.model.specs.Queues.{queueSound}
@@ -23,8 +23,9 @@ use Rattle.queue.specs.Layout.{items, packed, Packed, tidy, soundQueue}
 use Rattle.model.specs.Ledger.{ledgerRules}
 use Rattle.ledger.specs.Layout as ledger
 use Rattle.gate.specs.declared.State.{State}
-use Rattle.gate.specs.Layout.{noQueue, queueAt, listsOf, queuesOf, stateFrom, numbersOf, LaidOut, soundState}
+use Rattle.gate.specs.Layout.{noQueue, queueAt, listsOf, queuesOf, rowsOf, stateFrom, numbersOf, LaidOut, soundState}
 use Rattle.gate.specs.Requests.{soundQueues}
+use Rattle.gate.specs.Plans.{leftToJudge}
 use lib.Dec.{leb, eqb}
 
 four-long : (qs : List Queue) → length qs ≡ 4 → qs ≡ queueAt qs 0 ∷ queueAt qs 1 ∷ queueAt qs 2 ∷ queueAt qs 3 ∷ []
@@ -45,54 +46,57 @@ more-packed n qs f p k h =
     (λ e. let same : k ≡ n = omega (arith, leb-true n k e) in subst⁻¹ (λ (x : ℕ). Packed (queueAt qs x)) same p)
     (λ e. f k (leb-false n k e))
 
-pub laid-out : (s : State) → length (s .queues) ≡ 4 → AllPacked 4 (s .queues) → ledger.Packed (s .ledger) → LaidOut s
-laid-out s h f l = λ i. stateFrom (same i) (l i) (s .live) (numbersOf s)
+pub laid-out : (s : State) → length (s .queues) ≡ 4 → AllPacked 4 (s .queues) → ledger.Packed (s .last .at) (s .rows .ledger)
+    → LaidOut s
+laid-out s h f l = λ i. stateFrom (same i) (s .levels) (rowsOf (l i) (s .rows .loads)) (s .live) (numbersOf s)
   where
     same : s .queues ≡ queuesOf (listsOf (s .queues))
     same =
         four-long (s .queues) h
         ∙ (λ i. f 0 (omega arith) i ∷ f 1 (omega arith) i ∷ f 2 (omega arith) i ∷ f 3 (omega arith) i ∷ [])
 
--- tests of two kinds, taken by kind or by queue; then one more, and two of the ledger's
+-- tests of two kinds, taken by kind or by queue; then one more, and two of the ledger's; before all, one of list and loads
 last-two : (u z w : Bool) → (u && (z && (w && true))) ≡ ((u && z) && w)
 last-two true true w = and-true w
 last-two true false w = refl
 last-two false z w = refl
 
-regroup : (a b c d t p q r s z w : Bool)
-    → ((a && (b && (c && (d && true)))) && t) && ((p && (q && (r && (s && true)))) && (z && (w && true)))
-    ≡ (((a && p) && ((b && q) && ((c && r) && ((d && s) && true)))) && z) && (t && w)
-regroup false b c d t p q r s z w = refl
-regroup true false c d t p q r s z w = simp and-false
-regroup true true false d t p q r s z w = simp and-false
-regroup true true true false t p q r s z w = simp and-false
-regroup true true true true false p q r s z w = simp and-false
-regroup true true true true true p q r s z w = last-two (p && (q && (r && (s && true)))) z w
+regroup : (y a b c d t p q r s z w : Bool)
+    → ((a && (b && (c && (d && true)))) && t) && ((y && true) && ((p && (q && (r && (s && true)))) && (z && (w && true))))
+    ≡ y && ((((a && p) && ((b && q) && ((c && r) && ((d && s) && true)))) && z) && (t && w))
+regroup false a b c d t p q r s z w = simp and-false
+regroup true false b c d t p q r s z w = refl
+regroup true true false c d t p q r s z w = simp and-false
+regroup true true true false d t p q r s z w = simp and-false
+regroup true true true true false t p q r s z w = simp and-false
+regroup true true true true true false p q r s z w = simp and-false
+regroup true true true true true true p q r s z w = last-two (p && (q && (r && (s && true)))) z w
 
 -- the groups of a state that are judged before its queues
 abbrev steered : State → Bool
-steered s = soundControl (controlOf (s .profile) (s .tuning))
+steered s = tuningSound (s .profile) (s .levels .len) (s .tuning)
 
 abbrev lasting : State → Bool
 lasting s = allOf (lastRules (s .profile) (s .clock .time) (s .last))
 
-abbrev pub counted : State → Bool
+abbrev counted : State → Bool
 counted s = allOf (countRules (howMany (listsOf (s .queues))) (s .counts))
 
-abbrev pub noting : State → Bool
-noting s = ledger.soundLedger (s .profile) (s .clock .time) (s .last) (s .ledger)
-
--- where the numbers are sound, the state is exactly if its queues and its ledger are
+-- where the numbers are sound, the state is exactly if what is left to judge is
 pub sound-by-queues : (s : State) → length (s .queues) ≡ 4 → eqb (s .live) 1 ≡ true → leb (s .oldway) 1 ≡ true → steered s ≡ true
     → leb (s .clock .time) endOfTime ≡ true → lasting s ≡ true
-    → soundState s ≡ ((soundQueues (s .profile) (s .clock .time) 0 (s .queues) && counted s) && noting s)
-unfolding soundState sound soundQueues soundQueue ledger.soundLedger
+    → soundState s ≡ leftToJudge s
+unfolding soundState sound soundControl soundQueues soundQueue ledger.soundLedger
 sound-by-queues s h a w b c d =
     rw (a, w, b, c, d)
-    (regroup (tidy (queueAt qs 0)) (tidy (queueAt qs 1)) (tidy (queueAt qs 2)) (tidy (queueAt qs 3)) (ledger.tidy (s .ledger))
-    (judge 0) (judge 1) (judge 2) (judge 3) (counted s)
-    (allOf (ledgerRules (s .profile) now (s .last) (ledger.items (s .ledger))))
-    ∙ ap (λ (l : List Queue). (soundQueues (s .profile) now 0 l && counted s) && noting s) (sym (four-long qs h)))
+    (regroup (listingSound (s .profile) (s .levels) (s .rows .loads)) (tidy (queueAt qs 0)) (tidy (queueAt qs 1))
+    (tidy (queueAt qs 2)) (tidy (queueAt qs 3)) (ledger.tidy (s .last .at) (s .rows .ledger)) (judge 0) (judge 1) (judge 2)
+    (judge 3) (counted s)
+    (allOf (ledgerRules (s .profile) now (s .last) (ledger.items (s .last .at) (s .rows .ledger))))
+    ∙ ap (λ (l : List Queue). listingSound (s .profile) (s .levels) (s .rows .loads)
+    && ((soundQueues (s .profile) now 0 l && counted s)
+    && ledger.soundLedger (s .profile) now (s .last) (s .rows .ledger)))
+    (sym (four-long qs h)))
   where
     qs : List Queue
     qs = s .queues
@@ -125,7 +129,7 @@ module _ (s : State) where
   unsound-way h = simp (lt-leb (s .oldway) 1 h, and-false)
 
   pub unsound-control : steered s ≡ false → soundState s ≡ false
-  unfolding soundState sound
+  unfolding soundState sound soundControl
   unsound-control h = simp (h, and-false)
 
   pub unsound-time : passesEnd (s .clock .time) ≡ true → soundState s ≡ false

@@ -1,7 +1,7 @@
 -- By the number.
 use mathlib.Core.Path.{_∙_}
+use native.Mathlib.Omega.{arith}
 use borrow.Author.Tests.{eq-eqb, ne-eqb}
-use borrow.Author.Needs.{needs}
 use Rattle.gate.specs.Plans.{agedBy}
 use Rattle.gate.proofs.aged_count.Statement.{statement}
 use Rattle.gate.proofs.aged_count.Tie as tie
@@ -11,7 +11,7 @@ unfolding agedBy
 returns c = rw (ne-eqb _ _ (c .if1 .taken))
 
 count-aged-requires : tie.Need-count-aged-requires
-count-aged-requires c κs = (c .before .pre .0, c .before .pre .1 (c .if1 .left))
+count-aged-requires c κs = (c .before .pre .0, omega (arith, c .before .pre .1 (c .if1 .left)))
 
 returns-2 : tie.Need-returns-2
 unfolding agedBy

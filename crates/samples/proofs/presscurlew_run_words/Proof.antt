@@ -51,7 +51,10 @@ step-requires : tie.Need-step-requires Inv-loop μ-loop
 step-requires c κs = search needs
 
 add-i : tie.Need-add-i Inv-loop μ-loop
-add-i c = search needs
+add-i c =
+    let at-test = c .before .before .before .before .before in
+    let known = at-test .before .before in
+    search (needs, at-test .loop-test, known .shared-slice-known2, known .before .shared-slice-known)
 
 loop-less : tie.Need-loop-less Inv-loop μ-loop
 loop-less c = search needs

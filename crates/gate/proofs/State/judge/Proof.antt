@@ -1,4 +1,4 @@
--- A number that fails fails the state; where none does, its queues, its counts and its ledger decide.
+-- A number that fails fails the state; where none does, what is left to judge decides.
 use mathlib.Core.Path.{_≡_, _∙_, sym}
 use lib.ListN.{length, length-map}
 use borrow.Author.Needs.{needs}
@@ -21,13 +21,13 @@ returns-2 c = unsound-live (c .before .before .before .args .self) (c .if2 .take
 returns-3 : tie.Need-returns-3
 returns-3 c = unsound-way (c .before .before .before .before .before .args .self) (c .if3 .taken)
 
-is-sound-requires : tie.Need-is-sound-requires
-is-sound-requires c κs = search needs
+is-tuning-sound-requires : tie.Need-is-tuning-sound-requires
+is-tuning-sound-requires c κs = search needs
 
 returns-4 : tie.Need-returns-4
 returns-4 c =
     unsound-control (c .before .before .before .before .before .before .before .before .args .self)
-    (sym (c .before .is-sound .ensures) ∙ not-true _ (c .if4 .taken))
+    (sym (c .before .is-tuning-sound .ensures) ∙ not-true _ (c .if4 .taken))
 
 passes-end-requires : tie.Need-passes-end-requires
 passes-end-requires c κs = search needs
@@ -54,7 +54,7 @@ returns-7 c =
     let early = in-time (s .args .self .clock .time) (sym (t .before .passes-end .ensures) ∙ t .if5 .left) in (
       sound-by-queues (s .args .self) (long s) (eq-eqb _ _ (k .before .before .before .before .before .if2 .left))
           (le-leb _ _ (k .before .before .before .if3 .left))
-          (sym (k .before .is-sound .ensures) ∙ not-false _ (k .if4 .left))
+          (sym (k .before .is-tuning-sound .ensures) ∙ not-false _ (k .if4 .left))
           early
           (sym (c .before .is-last-sound .ensures) ∙ not-false _ (c .if6 .left)),
       leb-true _ _ early,
@@ -67,7 +67,7 @@ judge-spec =
     returns
     returns-2
     returns-3
-    is-sound-requires
+    is-tuning-sound-requires
     returns-4
     passes-end-requires
     returns-5
