@@ -1,20 +1,24 @@
--- Two good samples by words with the same counts: the record goes by the counts alone, and so does the gate's answer.
+-- Two good samples by words with the same counts: the record goes by the counts alone, and so does the gate's answer. No record
+-- goes by a make's list, and no gate of another profile than 5 does.
 use Prim.Native.Nat.{ℕ}
-use mathlib.Core.Path.{_≡_, sym, ap, ap₂, _∙_}
+use mathlib.Core.Path.{_≡_, refl, sym, ap, ap₂, _∙_}
 use mathlib.Core.Bool.{Bool, true, not}
 use mathlib.Core.List.{List, _∷_}
+use borrow.Author.Tests.{ne-eqb}
 use lib.ListN.{length}
 use Rattle.rules.specs.Refusals.{check, firstOf}
 use Rattle.rules.specs.Samples.{busyOf, goodWords, sampleOf}
+use Rattle.control.specs.Control.{listKept}
 use Rattle.model.specs.Calls.{Call, words, count}
+use Rattle.model.specs.Gate.{makeIn}
 use Rattle.gate.specs.declared.State.{State}
 use Rattle.gate.specs.declared.Outcome.{Outcome}
-use Rattle.gate.specs.Layout.{callOn}
+use Rattle.gate.specs.Layout.{callOn, makeState}
 use Rattle.gate.specs.Runs.{stateAfter, eventsOn}
 use Rattle.gate.proofs.Sampling.{words-busy}
 use Rattle.calllog.specs.declared.Record.{Record}
 use Rattle.calllog.specs.Writing.{sampleRecord, recordOf, argumentChecks, placeChecks, writeNumber, unlessRefused, logAfter}
-use Rattle.calllog.specs.Writing.{ShareRecord, answersOn, SameAfter, CountAnswersAlike, AlikeAnswerAlike}
+use Rattle.calllog.specs.Writing.{ShareRecord, ListsLeftOut, answersOn, SameAfter, CountAnswersAlike, AlikeAnswerAlike}
 
 -- a good sample by words is answered as the one by its count
 pub count-for-words :
@@ -35,6 +39,15 @@ share-record log at stamp probes ws ws′ same =
       fields = fields;
       answer = answer;
       bytes = ap₂ (λ (n : ℕ) (rec : Record). unlessRefused n log at rec) answer fields;
+    }
+
+-- a make with its list and without it
+pub lists-left-out : ListsLeftOut
+unfolding recordOf writeNumber argumentChecks logAfter makeState makeIn firstOf listKept
+lists-left-out m =
+    record {
+      shared = λ log at. record { fields = refl; answer = refl; bytes = refl };
+      made = λ other. simp (ne-eqb (m .profile) 5 other);
     }
 
 -- calls that are answered alike lead on alike

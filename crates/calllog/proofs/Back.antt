@@ -17,11 +17,11 @@ use Rattle.rules.proofs.Cases.{split, clash, on-cond}
 use Rattle.model.specs.Calls.{words, count, offer, poll}
 use Rattle.calllog.specs.declared.Record.{Record}
 use Rattle.calllog.specs.Records.{recordBytes, byteAt, twoAt, fourAt, recordAt, Asked, makes, calls, unknown}
-use Rattle.calllog.specs.Records.{probesIn, askedBy}
+use Rattle.calllog.specs.Records.{profileIn, probesIn, askedBy}
 use Rattle.calllog.specs.Buffers.{written}
 use Rattle.calllog.specs.Writing.{littleEndian, bytesOf, recordOf, argumentChecks, placeChecks, writeNumber, logAfter}
 use Rattle.calllog.specs.Writing.{probesField, Narrow, Plain, Bytes, sixteenAt, WritesBack, BackExactly}
-use Rattle.calllog.proofs.Asking.{asks-nothing}
+use Rattle.calllog.proofs.Asking.{asks-nothing, other-profile}
 use Rattle.calllog.proofs.Pieces.{same-record}
 use Rattle.calllog.proofs.Writing.{place-passed}
 use Rattle.calllog.proofs.Reading.{Fitting, read-written, record-written, table, none-held, has-room, put, fits}
@@ -135,7 +135,7 @@ module _ (kind priority ontime lifetime id stamp : ℕ) where
   unfolding askedBy recordOf
   itself p =
       by-kind
-      (λ e. let z = p .make e in simp (e, z .1, z .2))
+      (λ e. let z = p .make e in simp (e, z .2, z .3, other-profile priority (z .0)))
       (λ e. let z = p .sample e in simp (e, z .0, z .1, read-field lifetime (z .2)))
       (λ e. simp e)
       (λ e. let z = p .poll e in simp (e, z .0, z .1, z .2, z .3))
@@ -145,7 +145,15 @@ module _ (kind priority ontime lifetime id stamp : ℕ) where
   unfolding askedBy argumentChecks firstOf
   accepts p f =
       by-kind
-      (λ e. simp (e, lt-leb 256 priority (f .priority), le-ltb 1 lifetime (p .make e .0)))
+      (λ e.
+      let z = p .make e in
+      simp (
+        e,
+        other-profile priority (z .0),
+        lt-leb 256 priority (f .priority),
+        ne-eqb priority 5 (z .0),
+        le-ltb 1 lifetime (z .1),
+      ))
       (λ e.
       simp (
         e,
@@ -179,7 +187,7 @@ unfolding argumentChecks recordOf
 plain (makes m) h =
     record {
       known = omega arith;
-      make = λ e. (ltb-false 1 (m .oldway) (h .1 .0), refl, refl);
+      make = λ e. (eqb-false (m .profile) 5 (h .1 .0), ltb-false 1 (m .oldway) (h .1 .1 .0), refl, refl);
       sample = λ e. absurd (omega arith);
       poll = λ e. absurd (omega arith);
     }

@@ -5,7 +5,7 @@ use Rattle.model.proofs.Computing.{of-runs}
 use Rattle.queue.specs.Layout.{packed}
 use Rattle.ledger.specs.Layout as ledger
 use Rattle.gate.specs.Layout.{soundState, callOn, makeState}
-use Rattle.calllog.specs.Records.{twoAt, fourAt, recordAt, probesIn, askedBy}
+use Rattle.calllog.specs.Records.{twoAt, fourAt, recordAt, probesIn, profileIn, askedBy}
 use Rattle.calllog.specs.Steps.{stepOn}
 use Rattle.calllog.specs.Lines.{digitsIn, decimal, lineOf, lastLine}
 use Rattle.calllog.specs.Bursts.{offeredBy, answerByte, offeredTo, answersTo}
@@ -13,11 +13,12 @@ use Rattle.calllog.specs.Bursts.{burstNumber, burstState, burstAnswers}
 use Rattle.calllog.specs.Text.{reachedFrom, linesFrom, outputFrom}
 
 unfoldable pub of-states : Type 0
-unfolding of-runs filled allAre padded packed ledger.pairs ledger.packed ledger.tidy soundState callOn makeState
+unfolding of-runs filled allAre padded packed ledger.packed ledger.tidy soundState callOn makeState
 of-states = Unit {0}
 
 unfoldable pub of-logs : Type 0
-unfolding outputFrom reachedFrom linesFrom lineOf lastLine decimal digitsIn stepOn probesIn askedBy recordAt twoAt fourAt
+unfolding outputFrom reachedFrom linesFrom lineOf lastLine decimal digitsIn stepOn askedBy probesIn profileIn recordAt twoAt
+    fourAt
 of-logs = Unit {0}
 
 unfoldable pub of-bursts : Type 0

@@ -1,5 +1,6 @@
 -- Reading back: 16 bytes at a place are read as the record that was written there, and a call's record asks that call, a
--- sample by words the one by its count; so the program answers a log of records as the gate answered the calls.
+-- sample by words the one by its count, a make the one without its list; so the program answers a log of records as the gate
+-- answered the calls.
 use Prim.Native.Nat.{ℕ, _+_, _*_, _/_, _%_, _≤_, _<_}
 use mathlib.Core.Path.{_≡_, refl, sym, ap, ap₂, _∙_}
 use mathlib.Core.Bool.{Bool, true, false, not, cond}
@@ -15,7 +16,8 @@ use Rattle.rules.specs.Samples.{mostProbes, usualProbes, busyOf, goodWords}
 use Rattle.rules.proofs.Cases.{clash, split, on-cond}
 use Rattle.rules.proofs.Probes.{busy-le, good-probes, good-words}
 use Rattle.rules.proofs.Refusals.{Numbered, exact, none-of, of-none, first-append}
-use Rattle.model.specs.Calls.{words, count, offer, poll}
+use Rattle.machine.specs.Levels.{noLevels}
+use Rattle.model.specs.Calls.{words, count, offer, poll, makingOf}
 use Rattle.gate.specs.declared.State.{State}
 use Rattle.gate.specs.declared.Outcome.{Outcome}
 use Rattle.calllog.specs.declared.Record.{Record}
@@ -26,11 +28,12 @@ use Rattle.calllog.specs.Lines.{ascii, line, lineOf, lastLine}
 use Rattle.calllog.specs.Buffers.{written}
 use Rattle.calllog.specs.Text.{reachedFrom, linesFrom, outputFrom}
 use Rattle.calllog.specs.Writing.{littleEndian, bytesOf, probesField, recordOf, argumentChecks, placeChecks, writeChecks}
-use Rattle.calllog.specs.Writing.{writeNumber, logAfter, WritesExactly, Narrow, counted, ReadsBack, PlaysBack}
+use Rattle.calllog.specs.Writing.{writeNumber, logAfter, WritesExactly, Narrow, carried, ReadsBack, PlaysBack}
 use Rattle.calllog.specs.Writing.{WritesBehind, logOf, AllWritten, answerLines, LogPlaysBack}
 use Rattle.calllog.proofs.Pieces.{same-record, pieces}
 use Rattle.calllog.proofs.Writing.{numbered, place-passed, passed, room}
-use Rattle.calllog.proofs.Alike.{count-for-words}
+use Rattle.calllog.proofs.Asking.{other-profile}
+use Rattle.calllog.proofs.Alike.{count-for-words, lists-left-out}
 
 -- a record whose numbers fit its fields
 pub record Fitting (rec : Record) : Type 0 where
@@ -129,7 +132,7 @@ fits (makes m) n h =
       kind = omega arith;
       priority = omega (arith, leb-false 256 (m .profile) (h .0));
       ontime = omega arith;
-      lifetime = omega (arith, ltb-false 1 (m .oldway) (h .1 .0));
+      lifetime = omega (arith, ltb-false 1 (m .oldway) (h .1 .1 .0));
       id = omega arith;
       stamp = omega arith;
     }
@@ -173,9 +176,11 @@ fits (calls (poll stamp)) n h =
 fits unknown n h = clash (let e : true ≡ false = h .0 in cc)
 
 -- a call's record asks it
-asks : (a : Asked) → NoneHolds (argumentChecks a) → askedBy (recordOf a) ≡ counted a
+asks : (a : Asked) → NoneHolds (argumentChecks a) → askedBy (recordOf a) ≡ carried a
 unfolding argumentChecks askedBy recordOf
-asks (makes m) h = refl
+asks (makes m) h =
+    ap (λ (profile : ℕ). makes (makingOf profile (m .oldway) noLevels (m .stamp)))
+    (other-profile (m .profile) (eqb-false (m .profile) 5 (h .1 .0)))
 asks (calls (words stamp probes ws)) h =
     ap (λ (n : ℕ). calls (count stamp (busyOf ws probes) n))
     (field-read probes (λ z. absurd (omega (arith, words-probes probes ws (h .0) .0))))
@@ -195,9 +200,9 @@ read-after log at a n z =
 pub reads-back : ReadsBack
 reads-back log at a n z = ap askedBy (read-after log at a n z) ∙ asks a (none-held log at a z)
 
-same-answer : (s : State) (a : Asked) → NoneHolds (argumentChecks a) → answered s (counted a) ≡ answered s a
+same-answer : (s : State) (a : Asked) → NoneHolds (argumentChecks a) → answered s (carried a) ≡ answered s a
 unfolding argumentChecks
-same-answer s (makes m) h = refl
+same-answer s (makes m) h = sym (lists-left-out m .made (eqb-false (m .profile) 5 (h .1 .0)))
 same-answer s (calls (words stamp probes ws)) h = count-for-words s stamp probes ws (not-false _ (h .0))
 same-answer s (calls (count stamp busy probes)) h = refl
 same-answer s (calls (offer stamp o)) h = refl

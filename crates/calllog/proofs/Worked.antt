@@ -2,15 +2,17 @@
 use Prim.Native.Nat.{ℕ}
 use mathlib.Core.Path.{_≡_, refl}
 use mathlib.Core.List.{List, [], _∷_, _++_, map}
+use lib.ListN.{replicate}
+use Rattle.machine.specs.Levels.{noLevels}
 use Rattle.model.specs.declared.Answer.{Answer}
 use Rattle.model.specs.declared.Answer.the-variants.{Ready, Taken, Sent, Idle, Closed, Refused}
 use Rattle.model.specs.declared.Packet.{Packet}
-use Rattle.model.specs.Calls.{Call, count, offer, poll}
+use Rattle.model.specs.Calls.{Call, count, offer, poll, makingOf}
 use Rattle.gate.specs.declared.State.{State}
 use Rattle.gate.specs.declared.Outcome.{Outcome}
 use Rattle.gate.specs.Layout.{outcome, callOn, makeState}
 use Rattle.calllog.specs.declared.Record.{Record}
-use Rattle.calllog.specs.Records.{twoAt, fourAt, recordAt, makes, calls, unknown, probesIn, askedBy}
+use Rattle.calllog.specs.Records.{twoAt, fourAt, recordAt, makes, calls, unknown, probesIn, profileIn, askedBy}
 use Rattle.calllog.specs.Steps.{atStart, stepOn}
 use Rattle.calllog.specs.Lines.{ascii, digitsIn, decimal, lineOf, lastLine}
 use Rattle.calllog.specs.Text.{outputOf, recordsDone, blockRoom}
@@ -35,14 +37,14 @@ ofKind kind = record { kind = kind; priority = 2; ontime = 400; lifetime = 1; id
 
 kinds :
     map (λ (kind : ℕ). askedBy (ofKind kind)) (0 ∷ 1 ∷ 2 ∷ 3 ∷ 4 ∷ 255 ∷ [])
-    ≡ makes (record { profile = 2; oldway = 1; stamp = 9 })
+    ≡ makes (makingOf 2 1 noLevels 9)
     ∷ calls (count 9 65541 1)
     ∷ calls (offer 9 (record { id = 65541; priority = 2; ontime = 400; lifetime = 1 }))
     ∷ calls (poll 9)
     ∷ unknown
     ∷ unknown
     ∷ []
-unfolding probesIn askedBy ofKind
+unfolding probesIn profileIn askedBy ofKind
 kinds = refl
 
 -- "A kind above 3 gets BAD-CALL": 10, and the state as it was
@@ -51,26 +53,33 @@ unfolding stepOn askedBy ofKind
 unknown-kind s = refl
 
 -- a make takes the place of whatever state there was, and a refused one leaves the not live state
-made-anew : (s : State) → stepOn s (ofKind 0) ≡ makeState (record { profile = 2; oldway = 1; stamp = 9 })
-unfolding stepOn askedBy ofKind
+made-anew : (s : State) → stepOn s (ofKind 0) ≡ makeState (makingOf 2 1 noLevels 9)
+unfolding stepOn profileIn askedBy ofKind
 made-anew s = refl
 
--- a record that says 4 makes a gate of profile 4 (document 02, W-209), and one that says 5 makes none
-made-harmonised : (s : State)
-    → stepOn s (record { kind = 0; priority = 4; ontime = 0; lifetime = 0; id = 0; stamp = 9 }) .answer ≡ Ready
-unfolding of-states of-logs
+-- a make's record; one that says 4 makes a gate of profile 4 (document 02, W-209)
+making : (profile oldway : ℕ) → Record
+making profile oldway = record { kind = 0; priority = profile; ontime = 0; lifetime = oldway; id = 0; stamp = 9 }
+
+made-harmonised : (s : State) → stepOn s (making 4 0) .answer ≡ Ready
+unfolding of-states of-logs making
 made-harmonised s = refl
 
+-- "there .. profile 5 is refused with 1" (W-213), in either way, and the state is the not live one; so is 6
 refused-make : (s : State)
-    → stepOn s (record { kind = 0; priority = 5; ontime = 0; lifetime = 0; id = 0; stamp = 9 }) ≡ outcome atStart (Refused 1)
-unfolding of-states of-logs
+    → map (stepOn s) (making 5 0 ∷ making 5 1 ∷ making 5 2 ∷ making 6 0 ∷ []) ≡ replicate 4 (outcome atStart (Refused 1))
+unfolding of-states of-logs making
 refused-make s = refl
+
+-- 5 is asked for as 0, every other profile as it is
+profiles : map profileIn (0 ∷ 1 ∷ 4 ∷ 5 ∷ 6 ∷ 255 ∷ []) ≡ 0 ∷ 1 ∷ 4 ∷ 0 ∷ 6 ∷ 255 ∷ []
+unfolding profileIn
+profiles = refl
 
 -- "any other number is refused with 1" (document 02, W-205): a lifetime field of 2, and one that is 0 or 1 in its low byte
 refused-way : (s : State)
-    → (stepOn s (record { kind = 0; priority = 1; ontime = 0; lifetime = 2; id = 0; stamp = 9 }) ≡ outcome atStart (Refused 1))
-    × (stepOn s (record { kind = 0; priority = 1; ontime = 0; lifetime = 256; id = 0; stamp = 9 }) ≡ outcome atStart (Refused 1))
-unfolding of-states of-logs
+    → (stepOn s (making 1 2) ≡ outcome atStart (Refused 1)) × (stepOn s (making 1 256) ≡ outcome atStart (Refused 1))
+unfolding of-states of-logs making
 refused-way s = (refl, refl)
 
 -- "Before a successful kind 0, kinds 1 to 3 meet NO-STATE"
@@ -124,6 +133,19 @@ output : outputOf log ≡ ascii "REFUSED 10\nREADY\nREFUSED 4\nTAKEN\nREFUSED 4\
 unfolding log of-states of-logs
 output = refl
 
+-- a make of profile 4, a poll, and makes of 5 and of 4 again: READY of 4, and behind the refused one no state is left
+log4 : List ℕ
+log4 =
+    (0 ∷ 4 ∷ 0 ∷ 0 ∷ 0 ∷ 0 ∷ 0 ∷ 0 ∷ 0 ∷ 0 ∷ 0 ∷ 0 ∷ 5 ∷ 0 ∷ 0 ∷ 0 ∷ [])
+    ++ (3 ∷ 0 ∷ 0 ∷ 0 ∷ 0 ∷ 0 ∷ 0 ∷ 0 ∷ 0 ∷ 0 ∷ 0 ∷ 0 ∷ 6 ∷ 0 ∷ 0 ∷ 0 ∷ [])
+    ++ (0 ∷ 5 ∷ 0 ∷ 0 ∷ 0 ∷ 0 ∷ 0 ∷ 0 ∷ 0 ∷ 0 ∷ 0 ∷ 0 ∷ 7 ∷ 0 ∷ 0 ∷ 0 ∷ [])
+    ++ (3 ∷ 0 ∷ 0 ∷ 0 ∷ 0 ∷ 0 ∷ 0 ∷ 0 ∷ 0 ∷ 0 ∷ 0 ∷ 0 ∷ 8 ∷ 0 ∷ 0 ∷ 0 ∷ [])
+    ++ (0 ∷ 4 ∷ 0 ∷ 0 ∷ 0 ∷ 0 ∷ 0 ∷ 0 ∷ 0 ∷ 0 ∷ 0 ∷ 0 ∷ 9 ∷ 0 ∷ 0 ∷ 0 ∷ [])
+
+output4 : outputOf log4 ≡ ascii "READY\nIDLE\nREFUSED 1\nREFUSED 9\nREADY\nEND\n"
+unfolding log4 of-states of-logs
+output4 = refl
+
 -- a block does the whole records that it holds, as far as there is room for their lines
 done :
     map (λ (bytes : ℕ). recordsDone bytes blockRoom) (0 ∷ 15 ∷ 16 ∷ 33 ∷ 65535 ∷ 65536 ∷ 65552 ∷ [])
@@ -148,7 +170,7 @@ burst-numbers = refl
 -- a fresh gate of profile 2 at stamp 5; an offer at 9, a poll's record, whose stamp 255 is not looked at, an offer at 8, and one
 -- of priority 4 at 10
 fresh2 : State
-fresh2 = makeState (record { profile = 2; oldway = 0; stamp = 5 }) .state
+fresh2 = makeState (makingOf 2 0 noLevels 5) .state
 
 four-records : List ℕ
 four-records =

@@ -3,9 +3,11 @@ use Prim.Native.Nat.{ℕ, _-_, _^_}
 use mathlib.Core.Path.{_≡_, refl}
 use mathlib.Core.List.{List, [], _∷_, _++_, map}
 use lib.ListN.{replicate}
-use Rattle.model.specs.Calls.{words, count, offer, poll}
+use Rattle.machine.specs.declared.Levels.{Levels}
+use Rattle.machine.specs.Levels.{levelsOf, noLevels}
+use Rattle.model.specs.Calls.{words, count, offer, poll, makingOf}
 use Rattle.model.proofs.Computing.{of-samples}
-use Rattle.calllog.specs.Records.{twoAt, fourAt, recordAt, Asked, makes, calls, unknown, probesIn, askedBy}
+use Rattle.calllog.specs.Records.{twoAt, fourAt, recordAt, Asked, makes, calls, unknown, probesIn, profileIn, askedBy}
 use Rattle.calllog.specs.Writing.{littleEndian, bytesOf, probesField, recordOf, argumentChecks, writeNumber, logAfter}
 
 -- what a write on literal bytes opens, by name
@@ -14,7 +16,7 @@ unfolding of-samples littleEndian bytesOf probesField recordOf argumentChecks wr
 of-writes = Unit {0}
 
 make : (profile oldway stamp : ℕ) → Asked
-make profile oldway stamp = makes (record { profile = profile; oldway = oldway; stamp = stamp })
+make profile oldway stamp = makes (makingOf profile oldway noLevels stamp)
 
 offered : (priority ontime lifetime : ℕ) → Asked
 offered priority ontime lifetime =
@@ -44,6 +46,26 @@ make-bytes :
     ∷ []
 unfolding of-writes make full
 make-bytes = refl
+
+-- "in the writer profile 5 is refused with 1" (W-213), with a good list too; the profiles beside it are not
+oneLevel : Levels
+oneLevel = levelsOf 1 60000 (300000 ∷ replicate 7 0) (100000 ∷ replicate 7 0)
+
+listed : (profile : ℕ) → Asked
+listed profile = makes (makingOf profile 0 oneLevel 9)
+
+five-refused :
+    map (writeNumber (full 16) 0) (make 5 0 9 ∷ make 5 1 9 ∷ listed 5 ∷ make 4 0 9 ∷ make 6 0 9 ∷ listed 4 ∷ [])
+    ≡ 1 ∷ 1 ∷ 1 ∷ 0 ∷ 0 ∷ 0 ∷ []
+unfolding of-writes make listed oneLevel full
+five-refused = refl
+
+-- "another profile's make is written without its list"
+list-left-out :
+    map (logAfter (full 16) 0) (listed 4 ∷ listed 5 ∷ [])
+    ≡ (0 ∷ 4 ∷ 0 ∷ 0 ∷ 0 ∷ 0 ∷ 0 ∷ 0 ∷ 0 ∷ 0 ∷ 0 ∷ 0 ∷ 9 ∷ 0 ∷ 0 ∷ 0 ∷ []) ∷ full 16 ∷ []
+unfolding of-writes listed oneLevel full
+list-left-out = refl
 
 -- "1 is a sample (identifier field = busy count)", all 32 bits of it
 count-bytes :
@@ -126,9 +148,9 @@ no-probes = refl
 order :
     map (writeNumber (full 15) 0)
     (offered 256 65536 4294967296 ∷ offered 0 65536 4294967296 ∷ offered 0 0 4294967296 ∷ offered 0 0 0
-    ∷ make 256 2 9 ∷ make 1 2 9 ∷ make 1 1 9
+    ∷ make 256 2 9 ∷ make 1 2 9 ∷ make 5 0 9 ∷ make 1 1 9
     ∷ sample 0 (2 ^ 40) ∷ sample 0 0 ∷ calls (count 9 0 0) ∷ calls (count 9 0 1000) ∷ calls (poll 9) ∷ [])
-    ≡ 5 ∷ 6 ∷ 7 ∷ 12 ∷ 1 ∷ 1 ∷ 12 ∷ 4 ∷ 12 ∷ 4 ∷ 12 ∷ 12 ∷ []
+    ≡ 5 ∷ 6 ∷ 7 ∷ 12 ∷ 1 ∷ 1 ∷ 1 ∷ 12 ∷ 4 ∷ 12 ∷ 4 ∷ 12 ∷ 12 ∷ []
 unfolding of-writes make offered sample full
 order = refl
 
@@ -164,13 +186,18 @@ ignored-zeroed :
     ∷ (1 ∷ 0 ∷ 0 ∷ 0 ∷ 4 ∷ 5 ∷ 6 ∷ 7 ∷ 8 ∷ 9 ∷ 10 ∷ 11 ∷ 12 ∷ 13 ∷ 14 ∷ 15 ∷ [])
     ∷ (2 ∷ 1 ∷ 2 ∷ 3 ∷ 4 ∷ 5 ∷ 6 ∷ 7 ∷ 8 ∷ 9 ∷ 10 ∷ 11 ∷ 12 ∷ 13 ∷ 14 ∷ 15 ∷ [])
     ∷ []
-unfolding of-writes again probesIn askedBy recordAt fourAt twoAt
+unfolding of-writes again probesIn profileIn askedBy recordAt fourAt twoAt
 ignored-zeroed = refl
 
 -- a kind 0 whose lifetime is neither 0 nor 1 does not come back: 1
 no-way : writeNumber (full 16) 0 (askedBy (recordAt (0 ∷ 1 ∷ 0 ∷ 0 ∷ 2 ∷ replicate 11 0) 0)) ≡ 1
-unfolding of-writes full probesIn askedBy recordAt fourAt twoAt
+unfolding of-writes full probesIn profileIn askedBy recordAt fourAt twoAt
 no-way = refl
+
+-- "a kind 0 record that says 5 is outside W-206's way back" (W-213): it is read as one that says 0, and written so
+five-again : map again ((0 ∷ 5 ∷ replicate 14 0) ∷ (0 ∷ 4 ∷ replicate 14 0) ∷ []) ≡ replicate 16 0 ∷ (0 ∷ 4 ∷ replicate 14 0) ∷ []
+unfolding of-writes again probesIn profileIn askedBy recordAt fourAt twoAt
+five-again = refl
 
 -- a sample's record with 0, 999, 1,000 and 20,000 as its lifetime: "a record that says 1,000 reads alike and is outside W-206's
 -- way back" (W-208): it comes back as 0

@@ -73,7 +73,7 @@ place-passed bytes at h = simp (le-ltb bytes (at + 16) h)
 
 pub numbered : (a : Asked) → Numbered (argumentChecks a)
 unfolding argumentChecks
-numbered (makes m) = (omega arith, (omega arith, tt))
+numbered (makes m) = (omega arith, (omega arith, (omega arith, tt)))
 numbered (calls (words stamp probes ws)) = (omega arith, tt)
 numbered (calls (count stamp busy probes)) = (omega arith, (omega arith, (omega arith, tt)))
 numbered (calls (offer stamp o)) = (omega arith, (omega arith, (omega arith, tt)))

@@ -8,10 +8,12 @@ use lib.Dec.{eqb, leb, ltb}
 use lib.ListN.{length, take, drop}
 use Rattle.rules.specs.Refusals.{Check, check, firstOf, NoneHolds, Exact}
 use Rattle.rules.specs.Samples.{usualProbes, busyOf, goodWords}
+use Rattle.machine.specs.Levels.{noLevels}
 use Rattle.model.specs.declared.Offer.{Offer}
 use Rattle.model.specs.declared.Answer.{Answer}
-use Rattle.model.specs.Calls.{Call, words, count, offer, poll, stampOf}
+use Rattle.model.specs.Calls.{Call, words, count, offer, poll, stampOf, Making, makingOf}
 use Rattle.gate.specs.declared.State.{State}
+use Rattle.gate.specs.Layout.{makeState}
 use Rattle.gate.specs.Runs.{stateAfter, eventsOn}
 use Rattle.calllog.specs.declared.Record.{Record}
 use Rattle.calllog.specs.Records.{recordBytes, byteAt, recordAt, Asked, makes, calls, unknown, askedBy}
@@ -63,8 +65,9 @@ blankRecord kind stamp =
     record { kind = kind; priority = 0; ontime = 0; lifetime = 0; id = 0; stamp = stamp }
 
 -- the record of a call: "Kind 0 makes a state (priority field = profile)", "kind 0 with lifetime field 1 asks
--- for the old way, 0 for the new" (W-205); "A sample by words is written by its busy count"; "3 a poll". What
--- no kind asks is never written, and its record is of a kind that asks nothing
+-- for the old way, 0 for the new" (W-205), "written without its list" (W-213); "A sample by words is written
+-- by its busy count"; "3 a poll". What no kind asks is never written, and its record is of a kind that asks
+-- nothing
 unfoldable pub recordOf : Asked → Record
 recordOf (makes m) =
     record { kind = 0; priority = m .profile; ontime = 0; lifetime = m .oldway; id = 0; stamp = m .stamp }
@@ -78,9 +81,11 @@ recordOf unknown = blankRecord 4 0
 abbrev pub tooWide : (bytes n : ℕ) → Bool
 tooWide bytes n = leb (256 ^ bytes) n
 
--- 1: the profile, and a yes-or-no that is neither
+-- 1: the profile; "in the writer profile 5 is refused with 1" (W-213), whose list no field has; and a
+-- yes-or-no that is neither
 abbrev pub makeWidths : (profile oldway : ℕ) → List Check
-makeWidths profile oldway = check 1 (tooWide 1 profile) ∷ check 1 (ltb 1 oldway) ∷ []
+makeWidths profile oldway =
+    check 1 (tooWide 1 profile) ∷ check 1 (eqb profile 5) ∷ check 1 (ltb 1 oldway) ∷ []
 
 -- 4: a sample's busy count and probe count; the writer "refuses a probe count of 0 with 4" (W-208), which
 -- would be read as 1,000
@@ -159,17 +164,21 @@ byCount (count stamp busy probes) = count stamp busy probes
 byCount (offer stamp o) = offer stamp o
 byCount (poll stamp) = poll stamp
 
--- what is read back of a call
-abbrev pub counted : Asked → Asked
-counted (makes m) = makes m
-counted (calls c) = calls (byCount c)
-counted unknown = unknown
+-- "another profile's make is written without its list and reads back with an empty one" (W-213)
+abbrev pub unlisted : Making → Making
+unlisted m = makingOf (m .profile) (m .oldway) noLevels (m .stamp)
+
+-- what a record carries of a call
+abbrev pub carried : Asked → Asked
+carried (makes m) = makes (unlisted m)
+carried (calls c) = calls (byCount c)
+carried unknown = unknown
 
 -- "Reading what was written gives back the call, a sample by words as one by its count"
 abbrev pub ReadsBack : Type 0
 ReadsBack =
     (log : List ℕ) (at : ℕ) (a : Asked) → Narrow a → writeNumber log at a ≡ 0
-    → askedBy (recordAt (logAfter log at a) at) ≡ counted a
+    → askedBy (recordAt (logAfter log at a) at) ≡ carried a
 
 -- so the program answers a record as the gate answered the call that was written, and goes on from the same
 -- state
@@ -206,11 +215,13 @@ LogPlaysBack =
     (s : State) (made : List Asked) → AllWritten made
     → outputFrom s (logOf made) ≡ answerLines s made ++ line (ascii "END")
 
--- "a record of kind 0 to 3 with ignored fields zero, and 0 or 1 as a kind 0's lifetime"; of kind 1 "a record
--- that says 1,000 reads alike and is outside W-206's way back" (W-208)
+-- "a record of kind 0 to 3 with ignored fields zero, and 0 or 1 as a kind 0's lifetime"; "a kind 0 record
+-- that says 5 is outside W-206's way back" (W-213); of kind 1 "a record that says 1,000 reads alike and is
+-- outside W-206's way back" (W-208)
 pub record Plain (rec : Record) : Type 0 where
   pub known : rec .kind ≤ 3
-  pub make : rec .kind ≡ 0 → (rec .lifetime ≤ 1) × (rec .ontime ≡ 0) × (rec .id ≡ 0)
+  pub make : rec .kind ≡ 0
+      → (rec .priority ≡ 5 → ⊥) × (rec .lifetime ≤ 1) × (rec .ontime ≡ 0) × (rec .id ≡ 0)
   pub sample : rec .kind ≡ 1 → (rec .priority ≡ 0) × (rec .ontime ≡ 0) × (rec .lifetime ≡ usualProbes → ⊥)
   pub poll : rec .kind ≡ 3 → (rec .priority ≡ 0) × (rec .ontime ≡ 0) × (rec .lifetime ≡ 0) × (rec .id ≡ 0)
 
@@ -255,6 +266,15 @@ abbrev pub ShareRecord : Type 0
 ShareRecord =
     (log : List ℕ) (at stamp probes : ℕ) (ws ws′ : List ℕ) → Alike probes ws ws′
     → Shared log at (calls (words stamp probes ws)) (calls (words stamp probes ws′))
+
+-- a make with a list and the one without it share a record too (W-213), refused or not; in another profile
+-- than 5 the gate makes the same state of both, and answers alike
+pub record ListLeftOut (m : Making) : Type 0 where
+  pub shared : (log : List ℕ) (at : ℕ) → Shared log at (makes m) (makes (unlisted m))
+  pub made : (m .profile ≡ 5 → ⊥) → makeState m ≡ makeState (unlisted m)
+
+abbrev pub ListsLeftOut : Type 0
+ListsLeftOut = (m : Making) → ListLeftOut m
 
 -- the answers alone
 abbrev pub answersOn : State → List Call → List Answer

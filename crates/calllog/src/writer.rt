@@ -6,7 +6,8 @@ ghost use Prim.Native.Nat.{_+_, _%_, _≤_};
 ghost use lib.Dec.{eqb};
 ghost use lib.ListN.{length};
 ghost use Rattle.rules.specs.Refusals.{firstOf};
-ghost use Rattle.model.specs.Calls.{words, count, offer, poll};
+ghost use Rattle.machine.specs.Levels.{noLevels};
+ghost use Rattle.model.specs.Calls.{words, count, offer, poll, makingOf};
 ghost use Rattle.calllog.specs.Records.{makes, calls};
 ghost use Rattle.calllog.specs.Buffers.{written};
 ghost use Rattle.calllog.specs.Writing.{littleEndian, bytesOf, makeWidths, offerWidths};
@@ -104,10 +105,14 @@ fn write_unless(refusal: u32, rec: Record, log: &mut [u8], at: usize) -> u32
     0
 }
 
+// Profile 5 needs a list, for which a record has no field.
 fn make_refusal(profile: u32, oldway: u32) -> u32
     ensures { λ r. ⌜ r ≡ firstOf (makeWidths profile oldway) ⌝ }
 {
     if MOST_IN_BYTE < profile {
+        return BAD_PROFILE;
+    }
+    if profile == rules::LISTED {
         return BAD_PROFILE;
     }
     if 1 < oldway {
@@ -129,10 +134,10 @@ fn offer_refusal(o: Offer) -> u32
     0
 }
 
-// Writes a make at a place of a log; gives 0, or the refusal.
+// Writes a make at a place of a log; gives 0, or the refusal. A make's list is left out of its record.
 pub fn write_make(profile: u32, oldway: u32, stamp: u32, log: &mut [u8], at: usize) -> u32
     ensures { λ r. ⌜ Wrote (now (log .entry)) at
-        (makes (record { profile = profile; oldway = oldway; stamp = stamp })) r (now (log .exit)) ⌝ }
+        (makes (makingOf profile oldway noLevels stamp)) r (now (log .exit)) ⌝ }
 {
     let rec = Record {
         kind: 0,

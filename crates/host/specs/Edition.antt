@@ -8,4 +8,4 @@ version = 9000
 
 -- the check sum of the sizes and offsets of all structs, and of the types of all calls, as C sees them
 abbrev pub layout : ℕ
-layout = 1253097843
+layout = 1764727010

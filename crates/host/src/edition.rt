@@ -5,7 +5,7 @@ ghost use Rattle.host.specs.Edition.{version, layout};
 
 pub const VERSION: u32 = 9000;
 
-pub const LAYOUT: u32 = 1253097843;
+pub const LAYOUT: u32 = 1764727010;
 
 // The version: a million for each major and a thousand for each minor number.
 #[no_mangle]

@@ -1,11 +1,13 @@
 // The call log's writer for a C or Rust host: each call's record at a place of a lent buffer (document 02,
 // W-206).
-ghost use Rattle.model.specs.Calls.{words, count, offer, poll};
+ghost use Rattle.machine.specs.Levels.{noLevels};
+ghost use Rattle.model.specs.Calls.{words, count, offer, poll, makingOf};
 ghost use Rattle.calllog.specs.Records.{makes, calls};
 ghost use Rattle.calllog.specs.Writing.{Wrote};
 use model::Offer;
 
 // Writes a make; gives 0, or the refusal, which writes nothing. `oldway` is 1 for the old way, 0 for the new.
+// Its list is left out, and profile 5, which needs one, is refused.
 #[no_mangle]
 pub extern "C" fn presscurlew_write_make(
     profile: u32,
@@ -15,7 +17,7 @@ pub extern "C" fn presscurlew_write_make(
     at: usize,
 ) -> u32
     ensures { λ r. ⌜ Wrote (now (log .entry)) at
-        (makes (record { profile = profile; oldway = oldway; stamp = stamp })) r (now (log .exit)) ⌝ }
+        (makes (makingOf profile oldway noLevels stamp)) r (now (log .exit)) ⌝ }
 {
     calllog::writer::write_make(profile, oldway, stamp, log, at)
 }

@@ -1,6 +1,8 @@
 -- The record is the make's, and the refusal that of its arguments.
 use mathlib.Core.Path.{refl}
 use denote.Ref.{now}
+use Rattle.machine.specs.Levels.{noLevels}
+use Rattle.model.specs.Calls.{makingOf}
 use Rattle.calllog.specs.Records.{makes}
 use Rattle.calllog.specs.Writing.{recordOf, argumentChecks}
 use Rattle.calllog.proofs.Writing.{judged}
@@ -23,7 +25,7 @@ returns c =
     let w = c .before .before in
     let m = w .before .before in
     let a = m .before .before .args in
-    judged (now (a .log)) (a .at) (makes (record { profile = a .profile; oldway = a .oldway; stamp = a .stamp }))
+    judged (now (a .log)) (a .at) (makes (makingOf (a .profile) (a .oldway) noLevels (a .stamp)))
     (m .make-refusal .result) (w .write-unless .result) _ _
     (m .make-refusal .ensures)
     (λ z. refl)
