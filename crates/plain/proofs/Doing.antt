@@ -7,15 +7,20 @@ use mathlib.Core.List.{List, [], _∷_, _++_}
 use native.Mathlib.Omega.{arith}
 use lib.Dec.{leb, eqb}
 use lib.ListN.{length, length-take}
-use borrow.Author.Tests.{ne-eqb}
+use borrow.Author.Tests.{ne-eqb, eq-eqb}
 use Rattle.rules.specs.Profiles.{lastPriority, room}
 use Rattle.rules.specs.Samples.{loadOf}
 use Rattle.rules.specs.Refusals.{firstOf}
 use Rattle.rules.proofs.Cases.{split}
 use Rattle.rules.proofs.Refusals.{Numbered, first-append, of-none}
 use Rattle.rules.proofs.Tests.{tested}
+use Rattle.machine.specs.declared.Loads.{Loads}
+use Rattle.machine.specs.Levels.{thresholds}
+use Rattle.machine.specs.Loads as held
+use Rattle.machine.specs.Moves.{levelAfter, movedBy}
+use Rattle.machine.proofs.Noted.{loads-packed}
 use Rattle.control.specs.declared.Tuning.{Tuning}
-use Rattle.control.specs.Control.{Control, controlOf, sampled}
+use Rattle.control.specs.Control.{Steerable, tuned, movedIn, loadsAfter, sampled}
 use Rattle.model.specs.declared.Packet.{Packet}
 use Rattle.model.specs.declared.Offer.{Offer}
 use Rattle.model.specs.declared.Clock.{Clock}
@@ -23,6 +28,7 @@ use Rattle.model.specs.declared.Counts.{Counts}
 use Rattle.model.specs.Packets.{packetOf, withoutExpired, atBack}
 use Rattle.model.specs.Calls.{offer}
 use Rattle.model.specs.Ledger.{young}
+use Rattle.model.specs.State.{withControl}
 use Rattle.model.specs.Effects.{stepped, moved, sampledBy, oneAccepted, oneSent, oneDisplaced, moreExpired, expired}
 use Rattle.model.specs.Effects.{refreshed, roomMade, joined, admits}
 use Rattle.model.specs.Gate.{numberChecks, roomChecks, ownChecks}
@@ -35,20 +41,25 @@ use Rattle.line.specs.Layout.{places, items, packed, Packed}
 use Rattle.line.proofs.Packing.{items-packed, packed-Packed, packed-length}
 use Rattle.line.proofs.Rules.{place-left}
 use Rattle.plain.specs.declared.State.{State}
-use Rattle.plain.specs.Layout.{viewOf, stateOf, LaidOut}
-use Rattle.plain.proofs.Views.{view-state, Known}
+use Rattle.plain.specs.Layout.{controlOn, viewOf, stateOf, LaidOut}
+use Rattle.plain.proofs.Views.{Writable, moved-writable, view-state, Known}
 
 -- a state laid out says what it was laid out from
-pub says : (a : State) (w : Listed) → a ≡ stateOf w → viewOf a ≡ w
-says a w e = ap viewOf e ∙ view-state w
+pub says : (a : State) (w : Listed) → Writable w → a ≡ stateOf w → viewOf a ≡ w
+says a w f e = ap viewOf e ∙ view-state w f
+
+pub waits : (a : State) (w : Listed) → a ≡ stateOf w → items (a .line) ≡ w .waiting
+waits a w e = ap (λ (x : State). items (x .line)) e ∙ items-packed (w .waiting)
 
 -- the clock moved and the aged dropped
 pub advanced : (s : State) (stamp : ℕ) (clock : Clock) (l : Ledger) → LaidOut s → clock ≡ stepped (s .clock) stamp
-    → l ≡ ledger.packed (young (clock .time) (ledger.items (s .ledger)))
+    → l ≡ ledger.packed (s .last .at) (young (clock .time) (ledger.items (s .last .at) (s .ledger)))
     → _≡_ {A = State}
     (record {
       line = s .line;
       ledger = l;
+      loads = s .loads;
+      levels = s .levels;
       clock = clock;
       last = s .last;
       counts = s .counts;
@@ -60,12 +71,15 @@ pub advanced : (s : State) (stamp : ℕ) (clock : Clock) (l : Ledger) → LaidOu
     (stateOf (moved (viewOf s) stamp))
 advanced s stamp clock l h e f =
     let line : s .line ≡ packed (items (s .line)) = ap (λ (x : State). x .line) h in
-    let g : l ≡ ledger.packed (young (stepped (s .clock) stamp .time) (ledger.items (s .ledger))) =
-    f ∙ ap (λ (c : Clock). ledger.packed (young (c .time) (ledger.items (s .ledger)))) e in
+    let es = ledger.items (s .last .at) (s .ledger) in
+    let g : l ≡ ledger.packed (s .last .at) (young (stepped (s .clock) stamp .time) es) =
+    f ∙ ap (λ (c : Clock). ledger.packed (s .last .at) (young (c .time) es)) e in
     λ i.
     record {
       line = line i;
       ledger = g i;
+      loads = s .loads;
+      levels = s .levels;
       clock = e i;
       last = s .last;
       counts = s .counts;
@@ -87,6 +101,8 @@ withLine a l c =
     record {
       line = l;
       ledger = a .ledger;
+      loads = a .loads;
+      levels = a .levels;
       clock = a .clock;
       last = a .last;
       counts = c;
@@ -113,12 +129,15 @@ refreshes a w left e f =
     ∙ ap (λ (ps : List Packet). packed (withoutExpired now ps)) (items-packed (w .waiting)) in
     ap₂ (λ (x : State) (l : Line). withLine x l (moreExpired (x .counts) (x .line .len - l .len))) e g
 
--- a sample
-abbrev pub withTuning : State → Tuning → State
-withTuning a t =
+-- what samples steer, moved by a load: in profile 5 the loads are noted, and the level is that of the loads as noted; in every
+-- other nothing is noted, and the level told is not looked at
+abbrev pub steeredTo : State → Tuning → Loads → State
+steeredTo a t l =
     record {
       line = a .line;
       ledger = a .ledger;
+      loads = l;
+      levels = a .levels;
       clock = a .clock;
       last = a .last;
       counts = a .counts;
@@ -128,27 +147,63 @@ withTuning a t =
       live = a .live;
     }
 
-abbrev steeredBy : State → Control → State
-steeredBy a k =
-    record {
-      line = a .line;
-      ledger = a .ledger;
-      clock = a .clock;
-      last = a .last;
-      counts = a .counts;
-      tuning = k .tuning;
-      profile = k .profile;
-      oldway = a .oldway;
-      live = a .live;
-    }
+module _ (s : State) (load level : ℕ) (t : Tuning) (l : Loads) (h : LaidOut s)
+    (k : t ≡ tuned (s .profile) (s .tuning) level load) where
+  abbrev Steers : Type 0
+  Steers = steeredTo s t l ≡ stateOf (withControl (viewOf s) (sampled (controlOn s) load))
 
-pub samples : (s a : State) (stamp busy probes load : ℕ) (t : Tuning) → a ≡ stateOf (moved (viewOf s) stamp)
-    → load ≡ loadOf busy probes → controlOf (s .profile) t ≡ sampled (controlOf (s .profile) (s .tuning)) load
-    → withTuning a t ≡ stateOf (sampledBy (viewOf s) stamp busy probes)
-samples s a stamp busy probes load t e f k =
-    ap (λ (x : State). withTuning x t) e
-    ∙ ap (steeredBy (stateOf (moved (viewOf s) stamp)))
-    (k ∙ ap (sampled (controlOf (s .profile) (s .tuning))) f)
+  steers : t ≡ tuned (s .profile) (s .tuning) (movedIn (controlOn s) load .level) load → l ≡ loadsAfter (controlOn s) load
+      → Steers
+  unfolding sampled
+  steers e f =
+      let line : s .line ≡ packed (items (s .line)) = ap (λ (x : State). x .line) h in
+      let noted : ledger.Packed (s .last .at) (s .ledger) = ap (λ (x : State). x .ledger) h in
+      λ i.
+      record {
+        line = line i;
+        ledger = noted i;
+        loads = f i;
+        levels = s .levels;
+        clock = s .clock;
+        last = s .last;
+        counts = s .counts;
+        tuning = e i;
+        profile = s .profile;
+        oldway = s .oldway;
+        live = s .live;
+      }
+
+  pub steers-listed : (m : Loads) → s .profile ≡ 5 → m ≡ held.packed (held.noted (held.loads (s .loads)) load) → l ≡ m
+      → level ≡ levelAfter (thresholds (s .levels)) (held.loads m) (s .tuning .level) → Steers
+  unfolding movedBy
+  steers-listed m e f u g =
+      let xs = held.noted (held.loads (s .loads)) load in
+      let as-noted : level ≡ levelAfter (thresholds (s .levels)) xs (s .tuning .level) =
+      g
+      ∙ ap (λ (ns : List ℕ). levelAfter (thresholds (s .levels)) ns (s .tuning .level))
+      (ap (λ (x : Loads). held.loads x) f ∙ loads-packed xs) in
+      steers (k ∙ ap (λ (n : ℕ). tuned (s .profile) (s .tuning) n load) as-noted) (rw (eq-eqb (s .profile) 5 e) (u ∙ f))
+
+  pub steers-unlisted : (s .profile ≡ 5 → ⊥) → l ≡ s .loads → Steers
+  unfolding tuned
+  steers-unlisted e f =
+      let n = ne-eqb (s .profile) 5 e in
+      steers (k ∙ rw n) (rw n f)
+
+-- a sample moves the clock first: what it leaves is laid out, and steered by as much
+pub advanced-laid : (s a : State) (stamp : ℕ) → a ≡ stateOf (moved (viewOf s) stamp) → LaidOut a
+advanced-laid s a stamp e = e ∙ ap stateOf (sym (says a (moved (viewOf s) stamp) (moved-writable s stamp) e))
+
+pub advanced-steerable : (s a : State) (stamp : ℕ) → a ≡ stateOf (moved (viewOf s) stamp)
+    → Steerable (s .profile) (s .tuning) → Steerable (a .profile) (a .tuning)
+advanced-steerable s a stamp e h = subst⁻¹ (λ (x : State). Steerable (x .profile) (x .tuning)) e h
+
+pub samples : (s a r : State) (stamp busy probes load : ℕ) → a ≡ stateOf (moved (viewOf s) stamp) → load ≡ loadOf busy probes
+    → r ≡ stateOf (withControl (viewOf a) (sampled (controlOn a) load)) → r ≡ stateOf (sampledBy (viewOf s) stamp busy probes)
+samples s a r stamp busy probes load e f k =
+    k
+    ∙ ap₂ (λ (v : Listed) (n : ℕ). stateOf (withControl v (sampled (v .control) n)))
+    (says a (moved (viewOf s) stamp) (moved-writable s stamp) e) f
 
 -- an offer's own numbers, then its room
 numbers-numbered : (profile : ℕ) (o : Offer) → Numbered (numberChecks profile o)
@@ -173,7 +228,7 @@ pub room-at : (a : State) (w : Listed) (n : ℕ) → a ≡ stateOf w
     → firstOf (roomChecks (a .oldway) (countOf n (items (a .line))) (a .counts .accepted))
     ≡ firstOf (roomChecks (w .oldway) (countOf n (w .waiting)) (w .counts .accepted))
 room-at a w n e =
-    ap (λ (x : Listed). firstOf (roomChecks (x .oldway) (countOf n (x .waiting)) (x .counts .accepted))) (says a w e)
+    ap₂ (λ (x : State) (ps : List Packet). firstOf (roomChecks (x .oldway) (countOf n ps) (x .counts .accepted))) e (waits a w e)
 
 -- one of a priority fewer leaves a place, and so does a priority that has fewer than five
 without-fewer : (n : ℕ) (ps : List Packet) → 1 ≤ countOf n ps → length (without n ps) + 1 ≡ length ps
@@ -215,14 +270,16 @@ module _ (s : State) (p : Packet) (l r : Line) (c : Counts) (h : LaidOut s) (e :
   abbrev Joins : Type 0
   Joins = withLine s r c ≡ stateOf (joined (roomMade (viewOf s) (p .priority)) p)
 
-  ledger-is : s .ledger ≡ ledger.packed (ledger.items (s .ledger))
+  ledger-is : ledger.Packed (s .last .at) (s .ledger)
   ledger-is = ap (λ (x : State). x .ledger) h
 
   placed : (ps : List Packet) (k : Counts) → r ≡ packed (atBack p ps) → c ≡ k
       → withLine s r c
       ≡ record {
         line = packed (atBack p ps);
-        ledger = ledger.packed (ledger.items (s .ledger));
+        ledger = ledger.packed (s .last .at) (ledger.items (s .last .at) (s .ledger));
+        loads = s .loads;
+        levels = s .levels;
         clock = s .clock;
         last = s .last;
         counts = k;
@@ -236,6 +293,8 @@ module _ (s : State) (p : Packet) (l r : Line) (c : Counts) (h : LaidOut s) (e :
       record {
         line = f i;
         ledger = ledger-is i;
+        loads = s .loads;
+        levels = s .levels;
         clock = s .clock;
         last = s .last;
         counts = g i;
@@ -260,7 +319,9 @@ module _ (s : State) (p : Packet) (l r : Line) (c : Counts) (h : LaidOut s) (e :
           → stateOf (joined (roomMade (viewOf s) (p .priority)) p)
           ≡ record {
             line = packed (atBack p (without (p .priority) (items (s .line))));
-            ledger = ledger.packed (ledger.items (s .ledger));
+            ledger = ledger.packed (s .last .at) (ledger.items (s .last .at) (s .ledger));
+            loads = s .loads;
+            levels = s .levels;
             clock = s .clock;
             last = s .last;
             counts = oneDisplaced (oneAccepted (s .counts));
@@ -283,7 +344,9 @@ module _ (s : State) (p : Packet) (l r : Line) (c : Counts) (h : LaidOut s) (e :
           → stateOf (joined (roomMade (viewOf s) (p .priority)) p)
           ≡ record {
             line = packed (atBack p (items (s .line)));
-            ledger = ledger.packed (ledger.items (s .ledger));
+            ledger = ledger.packed (s .last .at) (ledger.items (s .last .at) (s .ledger));
+            loads = s .loads;
+            levels = s .levels;
             clock = s .clock;
             last = s .last;
             counts = oneAccepted (s .counts);
@@ -296,11 +359,15 @@ module _ (s : State) (p : Packet) (l r : Line) (c : Counts) (h : LaidOut s) (e :
 
 -- a packet goes
 pub admitted : (s : State) (p : Packet) (l : Line) (r : Ledger) → l ≡ packed (without (p .priority) (items (s .line)))
-    → r ≡ ledger.packed (ledger.items (s .ledger) ++ (ledger.admission (s .clock .time) (p .ontime) ∷ []))
+    → r
+    ≡ ledger.packed (s .clock .time)
+    (ledger.items (s .last .at) (s .ledger) ++ (ledger.admission (s .clock .time) (p .ontime) ∷ []))
     → _≡_ {A = State}
     (record {
       line = l;
       ledger = r;
+      loads = s .loads;
+      levels = s .levels;
       clock = s .clock;
       last = record { at = s .clock .time; ontime = p .ontime; admitted = 1 };
       counts = oneSent (s .counts);
@@ -315,6 +382,8 @@ admitted s p l r e f =
     record {
       line = e i;
       ledger = f i;
+      loads = s .loads;
+      levels = s .levels;
       clock = s .clock;
       last = record { at = s .clock .time; ontime = p .ontime; admitted = 1 };
       counts = oneSent (s .counts);
@@ -325,9 +394,9 @@ admitted s p l r e f =
     }
 
 -- an offer taken
-pub offered : (a r : State) (w : Listed) (o : Offer) (p : Packet) → a ≡ stateOf w → p ≡ packetOf o (a .clock .time)
+pub offered : (a r : State) (w : Listed) (o : Offer) (p : Packet) → Writable w → a ≡ stateOf w → p ≡ packetOf o (a .clock .time)
     → r ≡ stateOf (joined (roomMade (viewOf a) (p .priority)) p)
     → r ≡ stateOf (joined (roomMade w (o .priority)) (packetOf o (w .clock .time)))
-offered a r w o p e f g =
+offered a r w o p h e f g =
     let q : p ≡ packetOf o (w .clock .time) = f ∙ ap (λ (x : State). packetOf o (x .clock .time)) e in
-    g ∙ ap₂ (λ (v : Listed) (x : Packet). stateOf (joined (roomMade v (x .priority)) x)) (says a w e) q
+    g ∙ ap₂ (λ (v : Listed) (x : Packet). stateOf (joined (roomMade v (x .priority)) x)) (says a w h e) q

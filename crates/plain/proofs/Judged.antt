@@ -8,16 +8,16 @@ use borrow.Author.Tests.{ne-eqb, eq-eqb, le-leb, lt-leb, ltb-true, ltb-false}
 use Rattle.rules.specs.Tests.{allOf}
 use Rattle.rules.specs.Clock.{endOfTime, passesEnd}
 use Rattle.rules.proofs.Cases.{both}
-use Rattle.control.specs.Control.{controlOf, soundControl}
+use Rattle.control.specs.Control.{soundControl}
 use Rattle.model.specs.Ledger.{ledgerRules}
 use Rattle.model.specs.State.{lastRules, countRules, sound}
 use Rattle.ledger.specs.Layout as ledger
-use Rattle.ledger.proofs.Sound.{tidy-packed}
+use Rattle.ledger.proofs.Sound.{sound-packed}
 use Rattle.line.specs.Line.{listRules}
 use Rattle.line.specs.Layout.{items, tidy, Packed, soundLine}
 use Rattle.line.proofs.Packing.{packed-length}
 use Rattle.plain.specs.declared.State.{State}
-use Rattle.plain.specs.Layout.{LaidOut, soundState}
+use Rattle.plain.specs.Layout.{controlOn, LaidOut, soundState}
 
 pub in-time : (time : ℕ) → passesEnd time ≡ false → time ≤ endOfTime
 unfolding passesEnd
@@ -29,7 +29,7 @@ no u P e = (sym e, λ z. absurd (false≢true z))
 
 module _ (s : State) where
   abbrev steered : Bool
-  steered = soundControl (controlOf (s .profile) (s .tuning))
+  steered = soundControl (controlOn s)
 
   abbrev lasting : Bool
   lasting = allOf (lastRules (s .profile) (s .clock .time) (s .last))
@@ -71,7 +71,7 @@ module _ (s : State) where
   pub unsound-line : lined ≡ false → soundState s ≡ false
   unfolding soundState sound soundLine
   unsound-line h =
-      by-line (tidy (s .line)) (ledger.tidy (s .ledger)) (eqb (s .live) 1) (leb (s .oldway) 1) steered
+      by-line (tidy (s .line)) (ledger.tidy (s .last .at) (s .ledger)) (eqb (s .live) 1) (leb (s .oldway) 1) steered
       (leb (s .clock .time) endOfTime) lasting (allOf (listRules (s .profile) (s .clock .time) (items (s .line)))) _ h
 
   pub unsound-counts : Packed (s .line) → counted ≡ false → soundState s ≡ false
@@ -89,27 +89,24 @@ module _ (s : State) where
       → lined ≡ true → Packed (s .line) → counted ≡ true → soundState s ≡ noting
   unfolding soundState sound soundLine passesEnd ledger.soundLedger
   by-ledger a b c d e f p z =
-      all-but (tidy (s .line)) (ledger.tidy (s .ledger)) (eqb (s .live) 1) (leb (s .oldway) 1) steered
+      all-but (tidy (s .line)) (ledger.tidy (s .last .at) (s .ledger)) (eqb (s .live) 1) (leb (s .oldway) 1) steered
       (leb (s .clock .time) endOfTime) lasting (allOf (listRules (s .profile) (s .clock .time) (items (s .line))))
       (allOf (countRules (length (items (s .line))) (s .counts)))
-      (allOf (ledgerRules (s .profile) (s .clock .time) (s .last) (ledger.items (s .ledger))))
+      (allOf (ledgerRules (s .profile) (s .clock .time) (s .last) (ledger.items (s .last .at) (s .ledger))))
       (eq-eqb (s .live) 1 a) b c (le-leb (s .clock .time) endOfTime (ltb-false endOfTime (s .clock .time) d)) e f
       (ap (λ (n : ℕ). allOf (countRules n (s .counts))) (sym (packed-length (s .line) p)) ∙ z)
 
-  pub ledger-tight : ledger.Forty (s .ledger .ats) × ledger.Forty (s .ledger .ontimes) → noting ≡ true
-      → ledger.Packed (s .ledger)
-  unfolding ledger.soundLedger
-  ledger-tight f e =
-      tidy-packed (s .ledger) (f .0) (f .1)
-      (both (ledger.tidy (s .ledger))
-      (allOf (ledgerRules (s .profile) (s .clock .time) (s .last) (ledger.items (s .ledger)))) e .0)
+  pub ledger-tight : ledger.Forty (s .ledger .slots) → noting ≡ true → ledger.Packed (s .last .at) (s .ledger)
+  ledger-tight f e = sound-packed (s .profile) (s .clock .time) (s .last) (s .ledger) e f
 
-  pub laid-out : Packed (s .line) → ledger.Packed (s .ledger) → LaidOut s
+  pub laid-out : Packed (s .line) → ledger.Packed (s .last .at) (s .ledger) → LaidOut s
   laid-out p l =
       λ i.
       record {
         line = p i;
         ledger = l i;
+        loads = s .loads;
+        levels = s .levels;
         clock = s .clock;
         last = s .last;
         counts = s .counts;

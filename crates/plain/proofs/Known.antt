@@ -1,4 +1,4 @@
--- What owning a state tells of it: its ledger has forty places of either kind.
+-- What owning a state tells of it: its ledger has forty places.
 use mathlib.Core.List.{List}
 use mir.Val.{Val}
 use denote.Shadow.{shadow}
@@ -9,5 +9,5 @@ use Rattle.plain.specs.declared.State.{State}
 use Rattle.plain.proofs.State as state
 
 pub forty-of : (s : State) (us : List Val) → shadow (row state.the-type .own s us)
-    → ledger.Forty (s .ledger .ats) × ledger.Forty (s .ledger .ontimes)
+    → ledger.Forty (s .ledger .slots)
 forty-of s us o = forty (s .ledger) _ (o .1 .1 .1 .0)

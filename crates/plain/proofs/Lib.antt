@@ -8,3 +8,4 @@ pub mod Doing
 pub mod Polling
 pub mod Bursts
 pub mod Runs
+pub mod Worked

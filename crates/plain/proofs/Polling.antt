@@ -33,9 +33,9 @@ use Rattle.line.proofs.Agree.{sound-tied, parts-sound, sound-lists-agree}
 use Rattle.plain.specs.declared.State.{State}
 use Rattle.plain.specs.declared.Outcome.{Outcome}
 use Rattle.plain.specs.Layout.{viewOf, stateOf, outcome}
-use Rattle.plain.proofs.Views.{sound-parts}
+use Rattle.plain.proofs.Views.{sound-writable, sound-parts}
 use Rattle.plain.proofs.Entry.{Entered, called-effect, none-own}
-use Rattle.plain.proofs.Doing.{says}
+use Rattle.plain.proofs.Doing.{says, waits}
 
 abbrev laid : Result inList → Outcome
 laid o = outcome (stateOf (o .view)) (o .answer)
@@ -49,7 +49,7 @@ pub picks-at : (a : State) (w : Listed) (p : Packet) → a ≡ stateOf w → (a 
     → picked (w .waiting) ≡ chosen p (without (p .priority) (w .waiting))
 picks-at a w p e h f =
     subst⁻¹ (λ (q : Packet). picked (w .waiting) ≡ chosen q (without (q .priority) (w .waiting)))
-    (f ∙ ap (λ (v : Listed). goesNext (v .waiting)) (says a w e))
+    (f ∙ ap goesNext (waits a w e))
     (picks (w .waiting) (omega (arith, h, len-of a w e)))
 
 pub packets-of : (w : Listed) → sound w ≡ true → allOf (listRules (w .control .profile) (w .clock .time) (w .waiting)) ≡ true
@@ -95,13 +95,13 @@ sends a r w p n e h f g z k =
     let open-now : maySend w p ≡ true =
     may-go w p (without (p .priority) (w .waiting)) h f ∙ ap (λ (m : ℕ). eqb m 0) (sym g) ∙ eq-eqb n 0 z in
     let left : r ≡ stateOf (admits w p (without (p .priority) (w .waiting))) =
-    k ∙ ap (λ (v : Listed). stateOf (admits v p (without (p .priority) (v .waiting)))) (says a w e) in
+    k ∙ ap (λ (v : Listed). stateOf (admits v p (without (p .priority) (v .waiting)))) (says a w (sound-writable w h) e) in
     rw (f, open-now) (ap (λ (x : State). outcome x (Sent p)) left)
 
 -- the µs left, of the state that was laid out
-pub left-at : (a : State) (w : Listed) (p : Packet) (n : ℕ) → a ≡ stateOf w
+pub left-at : (a : State) (w : Listed) (p : Packet) (n : ℕ) → a ≡ stateOf w → sound w ≡ true
     → n ≡ max (waitLeft (viewOf a)) (airLeft (viewOf a) p) → n ≡ max (waitLeft w) (airLeft w p)
-left-at a w p n e f = f ∙ ap (λ (v : Listed). max (waitLeft v) (airLeft v p)) (says a w e)
+left-at a w p n e h f = f ∙ ap (λ (v : Listed). max (waitLeft v) (airLeft v p)) (says a w (sound-writable w h) e)
 
 -- room in the ledger
 keeps-sound : (v : Listed) (c : Call) → sound v ≡ true → sound (call v c .view) ≡ true

@@ -15,7 +15,7 @@ use Rattle.model.specs.Gate.{makeIn, make, call}
 use Rattle.model.specs.Journal.{Journal, opened, journalOf}
 use Rattle.model.specs.Claims.{Claims, viewAfter}
 use Rattle.model.proofs.Refusals.{refusals-change-nothing}
-use Rattle.model.proofs.Sound.{forty-are-enough}
+use Rattle.model.proofs.Sound.{test-view, forty-are-enough}
 use Rattle.model.proofs.Demand3.{demand3}
 use Rattle.ledger.proofs.Meaning.{packed-tidy}
 use Rattle.line.specs.Line.{inList, Listed, listRules}
@@ -41,7 +41,7 @@ use Rattle.plain.specs.Layout.{viewOf, stateOf, soundState, callOn, make
 use Rattle.plain.specs.Bursts.{offeredBy, offeredTo, answersTo, burstState, burstAnswers}
 use Rattle.plain.specs.Bursts.{moved, heardOf, movedAll, allHeard}
 use Rattle.plain.specs.Runs.{SameMoves, SoundStatesAgree, PollsRight, journalHeard, SameRun, Agrees}
-use Rattle.plain.proofs.Views.{view-state, sound-parts}
+use Rattle.plain.proofs.Views.{sound-writable, view-state, sound-parts}
 use Rattle.plain.proofs.Polling.{packets-of}
 
 -- a sound list laid out is a sound state
@@ -50,8 +50,8 @@ unfolding soundState
 state-sound v e =
     rw (
       tidy-packed (v .waiting) (at-most-twenty (v .control .profile) (v .clock .time) (v .waiting) (packets-of v e)),
-      packed-tidy (v .ledger) (forty-are-enough v e),
-      view-state v,
+      packed-tidy (v .last .at) (v .ledger) (sound-writable v e) (forty-are-enough v e),
+      view-state v (sound-writable v e),
     )
     e
 
@@ -69,10 +69,13 @@ call-reads s c e =
     rw e
     (on-cond (Reads w) (isRefused (w .answer))
     (λ r. (sym (refusals-change-nothing (viewOf s) c r), refl, e))
-    (λ r. (view-state (w .view), refl, state-sound (w .view) (keeps-sound (viewOf s) c (sound-parts s e .2)))))
+    (λ r. (view-state (w .view) (sound-writable (w .view) kept), refl, state-sound (w .view) kept)))
   where
     w : Result inList
     w = call (viewOf s) c
+
+    kept : sound (call (viewOf s) c .view) ≡ true
+    kept = keeps-sound (viewOf s) c (sound-parts s e .2)
 
 -- two sound states that say the same
 pub record Same (s : State) (t : gate-state.State) : Type 0 where
@@ -187,10 +190,13 @@ made-same m ready =
     let w = make m .view in
     let t = made-alike m .1 in
     let e = begins m ready in
+    let h : sound v ≡ true = parts-sound v w t ∙ e in
     record {
-      here = state-sound v (parts-sound v w t ∙ e);
+      here = state-sound v h;
       there = gate-runs.state-sound w e;
-      says = ap inParts (view-state v) ∙ tied-parts v w t ∙ sym (gate-views.view-state w);
+      says =
+          ap inParts (view-state v (sound-writable v h)) ∙ tied-parts v w t
+          ∙ sym (gate-views.view-state w (gate-views.sound-writable w (test-view w e)));
     }
 
 same-made : (m : Making) → makeState m .answer ≡ gate.makeState m .answer

@@ -6,7 +6,7 @@ use mathlib.Core.Bool.{Bool, true, cond, _&&_}
 use mathlib.Core.List.{List}
 use Rattle.rules.specs.Tests.{allOf}
 use Rattle.rules.specs.Clock.{stepOf, goesBack, passesEnd}
-use Rattle.control.specs.Control.{controlOf}
+use Rattle.control.specs.Control.{Control, controlOf}
 use Rattle.model.specs.declared.Answer.{Answer}
 use Rattle.model.specs.declared.Answer.the-variants.{Refused}
 use Rattle.model.specs.Calls.{Call, Making, isRefused}
@@ -22,18 +22,24 @@ use Rattle.line.specs.Layout.{items, packed, tidy}
 use Rattle.plain.specs.declared.State.{State}
 use Rattle.plain.specs.declared.Outcome.{Outcome}
 
--- a state read as the model's state with one list
+-- what samples steer
+abbrev pub controlOn : State → Control
+controlOn s = controlOf (s .profile) (s .tuning) (s .levels) (s .loads)
+
+-- a state read as the model's state with one list; its ledger counts back from the last admission
 abbrev pub viewOf : State → Listed
 viewOf s =
-    statusFrom (s .live) (s .oldway) (s .clock) (controlOf (s .profile) (s .tuning)) (s .last)
-    (ledger.items (s .ledger)) (s .counts) (items (s .line))
+    statusFrom (s .live) (s .oldway) (s .clock) (controlOn s) (s .last)
+    (ledger.items (s .last .at) (s .ledger)) (s .counts) (items (s .line))
 
 -- and laid out again
 abbrev pub stateOf : Listed → State
 stateOf v =
     record {
       line = packed (v .waiting);
-      ledger = ledger.packed (v .ledger);
+      ledger = ledger.packed (v .last .at) (v .ledger);
+      loads = v .control .loads;
+      levels = v .control .levels;
       clock = v .clock;
       last = v .last;
       counts = v .counts;
@@ -47,9 +53,10 @@ stateOf v =
 abbrev pub LaidOut : State → Type 0
 LaidOut s = s ≡ stateOf (viewOf s)
 
--- "A state is sound if": what it says is, and everything unused in its line and its ledger is zero
+-- "A state is sound if": what it says is, and everything unused in its line and its ledger is zero. It says
+-- its loads and its list as they lie, so that their unused room is judged with them
 unfoldable pub soundState : State → Bool
-soundState s = (tidy (s .line) && ledger.tidy (s .ledger)) && sound (viewOf s)
+soundState s = (tidy (s .line) && ledger.tidy (s .last .at) (s .ledger)) && sound (viewOf s)
 
 -- what the engine's inner functions are given: a sound state
 abbrev pub Given : State → Type 0

@@ -6,21 +6,22 @@ ghost use mathlib.Core.List.{[], _∷_, _++_};
 ghost use lib.Dec.{leb, eqb};
 ghost use lib.ListN.{length};
 ghost use Prim.Native.Nat.{_-_, _≤_, _<_, max};
-ghost use Rattle.rules.specs.Profiles.{lastPriority, room};
+ghost use Rattle.rules.specs.Profiles.{lastPriority, room, fullLoad};
 ghost use Rattle.rules.specs.Refusals.{firstOf};
 ghost use Rattle.rules.specs.Clock.{endOfTime};
-ghost use Rattle.control.specs.Control.{controlOf};
+ghost use Rattle.machine.specs.Loads.{noLoads};
+ghost use Rattle.control.specs.Control.{controlOf, sampled, Steerable};
 ghost use Rattle.model.specs.declared.Answer.the-variants.{Refused};
-ghost use Rattle.model.specs.Calls.{words, count, offer, poll};
+ghost use Rattle.model.specs.Calls.{words, count, offer, poll, makingOf};
 ghost use Rattle.model.specs.Ledger.{mostAir, young, airOf, allowedFrom};
-ghost use Rattle.model.specs.State.{blank, notLive};
+ghost use Rattle.model.specs.State.{blank, notLive, withControl};
 ghost use Rattle.model.specs.Effects.{moved, refreshed, roomMade, joined, waitLeft, airLeft, admits};
 ghost use Rattle.model.specs.Gate.{roomChecks};
 ghost use Rattle.ledger.specs.Layout as ledger;
 ghost use Rattle.line.specs.Line.{countOf, without};
 ghost use Rattle.line.specs.Layout.{items};
 ghost use Rattle.plain.specs.Layout.{viewOf, stateOf, LaidOut, soundState, Given, outcome, callOn};
-ghost use Rattle.plain.specs.Layout.{makeState, entryNumber, InOrder, forty};
+ghost use Rattle.plain.specs.Layout.{controlOn, makeState, entryNumber, InOrder, forty};
 ghost use Rattle.plain.specs.Bursts.{offeredBy, burstState, burstAnswers};
 ghost use Rattle.calllog.specs.Bursts.{burstNumber};
 ghost use Rattle.plain.specs.Runs.{Agrees};
@@ -28,6 +29,8 @@ use calllog::Record;
 use control::Tuning;
 use ledger::Ledger;
 use line::Line;
+use machine::Levels;
+use machine::Loads;
 use model::Answer;
 use model::Clock;
 use model::Counts;
@@ -37,11 +40,14 @@ use model::Packet;
 use rules::Sample;
 
 // One engine's state. `oldway` is 1 where an offer of a priority of which five wait is refused, 0 where it
-// displaces the first of those. `live` is 1, or 0 before a make that was not refused.
+// displaces the first of those. `live` is 1, or 0 before a make that was not refused. The loads and the
+// levels are profile 5's, and zero in every other.
 #[repr(C)]
 pub struct State {
     pub line: Line,
     pub ledger: Ledger,
+    pub loads: Loads,
+    pub levels: Levels,
     pub clock: Clock,
     pub last: Last,
     pub counts: Counts,
@@ -72,44 +78,44 @@ fn is_ledger_sound(l: Ledger, profile: u32, time: u64, last: Last) -> bool
     requires { ⌜ time ≤ endOfTime ⌝ }
     ensures { λ r. ⌜ r ≡ ledger.soundLedger profile time last l ⌝ }
 {
-    ledger::is_sound(l.len, &l.ats, &l.ontimes, profile, time, last)
+    ledger::is_sound(l.len, &l.slots, profile, time, last)
 }
 
-// The ledger without the admissions that have aged.
-fn age(mut l: Ledger, time: u64) -> Ledger
-    requires { ⌜ ledger.Packed l ⌝ }
-    requires { ⌜ InOrder (ledger.items l) ⌝ }
-    ensures { λ r. ⌜ r ≡ ledger.packed (young time (ledger.items l)) ⌝ }
+// The ledger without the admissions that have aged. Its base is the time of the last admission.
+fn age(mut l: Ledger, base: u64, time: u64) -> Ledger
+    requires { ⌜ ledger.Packed base l ⌝ }
+    requires { ⌜ InOrder (ledger.items base l) ⌝ }
+    ensures { λ r. ⌜ r ≡ ledger.packed base (young time (ledger.items base l)) ⌝ }
 {
     let n = l.len;
-    let gone = ledger::count_aged(n, &l.ats, time);
-    ledger::drop_times(n, &mut l.ats, gone);
-    ledger::drop_ontimes(n, &mut l.ontimes, gone);
+    let gone = ledger::count_aged(n, &l.slots, base, time);
+    ledger::drop_oldest(n, &mut l.slots, gone);
     l.len = n - gone;
     l
 }
 
-// The ledger with one more admission.
-fn note(mut l: Ledger, at: u64, ontime: u32) -> Ledger
-    requires { ⌜ ledger.Packed l ⌝ }
+// The ledger, none of it aged, with one more admission, which is the last from then on: its time is the base.
+fn note(mut l: Ledger, base: u64, at: u64, ontime: u32) -> Ledger
+    requires { ⌜ ledger.Packed base l ⌝ }
     requires { ⌜ l .len < forty ⌝ }
-    ensures { λ r. ⌜ r ≡ ledger.packed (ledger.items l ++ (ledger.admission at ontime ∷ [])) ⌝ }
+    requires { ⌜ base ≤ at ⌝ }
+    requires { ⌜ young at (ledger.items base l) ≡ ledger.items base l ⌝ }
+    ensures { λ r. ⌜ r ≡ ledger.packed at (ledger.items base l ++ (ledger.admission at ontime ∷ [])) ⌝ }
 {
     let n = l.len;
-    l.ats[n] = at;
-    l.ontimes[n] = ontime;
+    ledger::put_newest(n, &mut l.slots, at - base, ontime, 1);
     l.len = n + 1;
     l
 }
 
 // The µs until the air allows a packet.
-fn air_left(l: Ledger, ontime: u32, time: u64) -> u64
+fn air_left(l: Ledger, base: u64, ontime: u32, time: u64) -> u64
     requires { ⌜ l .len ≤ forty ⌝ }
-    requires { ⌜ airOf (ledger.items l) ≤ mostAir ⌝ }
-    requires { ⌜ ledger.Timely (ledger.items l) ⌝ }
-    ensures { λ r. ⌜ r ≡ allowedFrom ontime time (ledger.items l) - time ⌝ }
+    requires { ⌜ airOf (ledger.items base l) ≤ mostAir ⌝ }
+    requires { ⌜ ledger.Timely (ledger.items base l) ⌝ }
+    ensures { λ r. ⌜ r ≡ allowedFrom ontime time (ledger.items base l) - time ⌝ }
 {
-    ledger::air_left(l.len, &l.ats, &l.ontimes, ontime, time)
+    ledger::air_left(l.len, &l.slots, base, ontime, time)
 }
 
 // What a burst leaves: the state, and the number that refuses it, or 0.
@@ -133,7 +139,9 @@ impl State {
         }
         let profile = self.profile;
         let tuning = self.tuning;
-        if !control::is_sound(profile, tuning) {
+        let levels = self.levels;
+        let loads = self.loads;
+        if !control::is_sound(profile, tuning, levels, loads) {
             return false;
         }
         let now = self.clock.time;
@@ -193,7 +201,7 @@ impl State {
         let given = self.clock;
         let clock = decide::clock_at(given, stamp);
         let ledger = self.ledger;
-        self.ledger = age(ledger, clock.time);
+        self.ledger = age(ledger, self.last.at, clock.time);
         self.clock = clock;
         self
     }
@@ -214,6 +222,26 @@ impl State {
         s
     }
 
+    // A sample's load moves what samples steer. In profile 5 it is noted first, so that it counts.
+    fn steer(mut self, load: u32) -> State
+        requires { ⌜ LaidOut self ⌝ }
+        requires { ⌜ Steerable (self .profile) (self .tuning) ⌝ }
+        requires { ⌜ load ≤ fullLoad ⌝ }
+        ensures { λ r. ⌜ r ≡ stateOf (withControl (viewOf self) (sampled (controlOn self) load)) ⌝ }
+    {
+        let tuning = self.tuning;
+        let levels = self.levels;
+        let mut loads = self.loads;
+        let mut level = tuning.level;
+        if self.profile == rules::LISTED {
+            loads = loads.note(load);
+            level = levels.level_after(loads, level);
+        }
+        self.tuning = control::tuning_after(self.profile, tuning, level, load);
+        self.loads = loads;
+        self
+    }
+
     // A sample by its busy count.
     pub fn sample_count(mut self, busy: u32, probes: u32, stamp: u32) -> Outcome
         ensures { λ r. ⌜ r ≡ callOn self (count stamp busy probes) ⌝ }
@@ -225,11 +253,9 @@ impl State {
         if rules::is_bad_count(busy, probes) {
             return self.refused(4);
         }
-        let tuning = control::tuning_after(self.profile, self.tuning, rules::load(busy, probes));
-        let mut s = self.advance(stamp);
-        s.tuning = tuning;
+        let s = self.advance(stamp);
         Outcome {
-            state: s,
+            state: s.steer(rules::load(busy, probes)),
             answer: Answer::Taken,
         }
     }
@@ -309,9 +335,12 @@ impl State {
     {
         let last = self.last;
         let now = self.clock.time;
-        let closed = control::closed_after(self.profile, self.tuning, last.ontime);
+        let tuning = self.tuning;
+        let levels = self.levels;
+        let listed = levels.wait(tuning.level);
+        let closed = control::closed_after(self.profile, tuning, listed, last.ontime);
         let left = decide::left_of(closed, last, now);
-        let late = air_left(self.ledger, p.ontime, now);
+        let late = air_left(self.ledger, last.at, p.ontime, now);
         decide::longer(left, late)
     }
 
@@ -323,7 +352,7 @@ impl State {
     {
         let now = self.clock.time;
         self.line = line::remove(self.line, p.priority);
-        self.ledger = note(self.ledger, now, p.ontime);
+        self.ledger = note(self.ledger, self.last.at, now, p.ontime);
         let last = Last {
             at: now,
             ontime: p.ontime,
@@ -408,12 +437,20 @@ pub fn burst(mut state: State, records: &[u8], answers: &mut [u8]) -> BurstTurn
     BurstTurn { state, number: 0 }
 }
 
-// A state with nothing waiting, nothing admitted and nothing counted.
-fn blank_state(live: u32, oldway: u32, clock: Clock, profile: u32, tuning: Tuning) -> State
-    ensures { λ r. ⌜ r ≡ stateOf (blank live oldway clock (controlOf profile tuning)) ⌝ }
+// A state with nothing waiting, nothing admitted, no load and nothing counted.
+fn blank_state(
+    live: u32,
+    oldway: u32,
+    clock: Clock,
+    profile: u32,
+    tuning: Tuning,
+    levels: Levels,
+) -> State
+    ensures { λ r. ⌜ r ≡ stateOf (blank live oldway clock (controlOf profile tuning levels noLoads)) ⌝ }
 {
     let line = line::empty();
     let ledger = ledger::empty();
+    let loads = Loads::none();
     let last = Last {
         at: 0,
         ontime: 0,
@@ -428,6 +465,8 @@ fn blank_state(live: u32, oldway: u32, clock: Clock, profile: u32, tuning: Tunin
     State {
         line,
         ledger,
+        loads,
+        levels,
         clock,
         last,
         counts,
@@ -439,32 +478,38 @@ fn blank_state(live: u32, oldway: u32, clock: Clock, profile: u32, tuning: Tunin
 }
 
 // What a refused make gives: the all-zero, not live state.
-fn refused_make() -> Outcome
-    ensures { λ r. ⌜ r ≡ outcome (stateOf notLive) (Refused 1) ⌝ }
+fn refused_make(number: u32) -> Outcome
+    ensures { λ r. ⌜ r ≡ outcome (stateOf notLive) (Refused number) ⌝ }
 {
     let clock = Clock { time: 0, stamp: 0 };
     let tuning = control::none();
-    let state = blank_state(0, 0, clock, 0, tuning);
+    let levels = Levels::none();
+    let state = blank_state(0, 0, clock, 0, tuning, levels);
     Outcome {
         state,
-        answer: Answer::Refused(1),
+        answer: Answer::Refused(number),
     }
 }
 
-// A fresh state; the all-zero one with the refusal of a bad profile, or of a way that is neither 0 nor 1.
-pub fn make(profile: u32, oldway: u32, stamp: u32) -> Outcome
-    ensures exact { λ r. ⌜ r ≡ makeState (record { profile = profile; oldway = oldway; stamp = stamp }) ⌝ }
-    ensures same { λ r. ⌜ Agrees r (record { profile = profile; oldway = oldway; stamp = stamp }) ⌝ }
+// A fresh state; the all-zero one with the refusal of a bad profile, of a way that is neither 0 nor 1, or, in
+// profile 5 alone, of a bad list.
+pub fn make(profile: u32, oldway: u32, list: Levels, stamp: u32) -> Outcome
+    ensures exact { λ r. ⌜ r ≡ makeState (makingOf profile oldway list stamp) ⌝ }
+    ensures same { λ r. ⌜ Agrees r (makingOf profile oldway list stamp) ⌝ }
 {
     if !rules::lies_within(rules::FIRST_PROFILE, rules::LAST_PROFILE, profile) {
-        return refused_make();
+        return refused_make(1);
     }
     if 1 < oldway {
-        return refused_make();
+        return refused_make(1);
+    }
+    if control::is_list_refused(profile, list) {
+        return refused_make(15);
     }
     let clock = Clock { time: 0, stamp };
     let tuning = control::fresh();
-    let state = blank_state(1, oldway, clock, profile, tuning);
+    let levels = control::list_kept(profile, list);
+    let state = blank_state(1, oldway, clock, profile, tuning, levels);
     Outcome {
         state,
         answer: Answer::Ready,

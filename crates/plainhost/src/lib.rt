@@ -2,11 +2,12 @@
 // by value (document 01, "State and calls"; document 02, W-212).
 ghost use mathlib.Core.Path.{_≡_};
 ghost use lib.ListN.{length};
-ghost use Rattle.model.specs.Calls.{plainReply, replyOf, words, count, offer, poll};
+ghost use Rattle.model.specs.Calls.{plainReply, replyOf, makingOf, words, count, offer, poll};
 ghost use Rattle.plain.specs.Layout.{callOn, makeState};
 ghost use Rattle.calllog.specs.Bursts.{burstNumber};
 ghost use Rattle.plain.specs.Bursts.{burstState, burstAnswers};
 ghost use Rattle.plainhost.specs.Turns.{turnOf};
+use machine::Levels;
 use model::Answer;
 use model::Offer;
 use model::Reply;
@@ -76,13 +77,18 @@ fn turn_of(outcome: Outcome) -> Turn
     Turn { state, reply }
 }
 
-// A fresh state; the all-zero one with the refusal of a bad profile, or of a way that is neither 0 nor 1.
+// A fresh state; the all-zero one with the refusal of a bad profile, of a way that is neither 0 nor 1, or, in
+// profile 5 alone, of a bad list.
 #[no_mangle]
-pub extern "C" fn presscurlew_plain_make(profile: u32, oldway: u32, stamp: u32) -> Turn
-    ensures { λ r. ⌜ r ≡ turnOf (makeState
-        (record { profile = profile; oldway = oldway; stamp = stamp })) ⌝ }
+pub extern "C" fn presscurlew_plain_make(
+    profile: u32,
+    oldway: u32,
+    list: Levels,
+    stamp: u32,
+) -> Turn
+    ensures { λ r. ⌜ r ≡ turnOf (makeState (makingOf profile oldway list stamp)) ⌝ }
 {
-    turn_of(plain::make(profile, oldway, stamp))
+    turn_of(plain::make(profile, oldway, list, stamp))
 }
 
 // A sample by words.

@@ -1,55 +1,43 @@
--- What has aged is dropped, of the times and of the on-times.
-use mathlib.Core.Path.{_≡_, sym, _∙_}
+-- As many words are dropped as have aged.
 use native.Mathlib.Omega.{arith}
-use Rattle.ledger.proofs.Known.{forty}
-use Rattle.plain.proofs.Ledgers.{few, old-most, ages}
-use borrow.Author.Needs.{needs}
+use Rattle.ledger.proofs.Settling.{few, full, old-most, drops-by}
+use Rattle.plain.proofs.Ledgers.{in-order}
 use Rattle.plain.proofs.age.Statement.{statement}
 use Rattle.plain.proofs.age.Tie as tie
 
 count-aged-requires : tie.Need-count-aged-requires
 count-aged-requires c κs =
     let s = c .before .before in
-    let f = forty (s .args .t1) _ (s .good .0) in
-    (f .0, few (s .args .t1) (s .args .time) (f .0) (f .1) (s .pre .0) (s .pre .1))
+    let o = in-order (s .args .base) (s .args .t1) (s .pre .0) (s .pre .1) in
+    (full (s .args .base) (s .args .time) (s .args .t1) o, few (s .args .base) (s .args .time) (s .args .t1) o)
 
-drop-times-requires : tie.Need-drop-times-requires
-drop-times-requires c κs =
+drop-oldest-requires : tie.Need-drop-oldest-requires
+drop-oldest-requires c κs =
     let s = c .before .before .before .before in
-    let f = forty (s .args .t1) _ (s .good .0) in
-    let k = few (s .args .t1) (s .args .time) (f .0) (f .1) (s .pre .0) (s .pre .1) in
-    let m = old-most (s .args .t1) (s .args .time) (f .0) (f .1) (s .pre .0) (s .pre .1) in
-    (f .0, λ h. (k, omega (arith, m, c .before .count-aged .ensures)))
-
-drop-ontimes-requires : tie.Need-drop-ontimes-requires
-drop-ontimes-requires c κs =
-    let s = c .before .before .before .before .before .before in
-    let f = forty (s .args .t1) _ (s .good .0) in
-    let k = few (s .args .t1) (s .args .time) (f .0) (f .1) (s .pre .0) (s .pre .1) in
-    let m = old-most (s .args .t1) (s .args .time) (f .0) (f .1) (s .pre .0) (s .pre .1) in
-    (f .1, λ h. (k, omega (arith, m, c .before .before .before .count-aged .ensures)))
+    let o = in-order (s .args .base) (s .args .t1) (s .pre .0) (s .pre .1) in
+    let m = old-most (s .args .base) (s .args .time) (s .args .t1) o in (
+      full (s .args .base) (s .args .time) (s .args .t1) o,
+      λ h. (few (s .args .base) (s .args .time) (s .args .t1) o, omega (arith, m, c .before .count-aged .ensures)),
+    )
 
 sub-l : tie.Need-sub-l
 sub-l c =
-    let s = c .before .before .before .before .before .before .before in
-    let f = forty (s .args .t1) _ (s .good .0) in
-    let m = old-most (s .args .t1) (s .args .time) (f .0) (f .1) (s .pre .0) (s .pre .1) in
-    omega (arith, m, c .before .before .before .before .count-aged .ensures)
+    let s = c .before .before .before .before .before in
+    let o = in-order (s .args .base) (s .args .t1) (s .pre .0) (s .pre .1) in
+    omega (arith, old-most (s .args .base) (s .args .time) (s .args .t1) o, c .before .before .count-aged .ensures)
 
 returns : tie.Need-returns
 returns c =
-    let s = c .before .before .before .before .before .before .before in
-    let f = forty (s .args .t1) _ (s .good .0) in
-    ages (s .args .t1) (s .args .time) (f .0) (f .1) (s .pre .0) (s .pre .1) _ _ _
-    (c .before .before .before .before .count-aged .ensures)
-    (c .before .before .drop-times .ensures) (c .drop-ontimes .ensures)
+    let s = c .before .before .before .before .before in
+    let o = in-order (s .args .base) (s .args .t1) (s .pre .0) (s .pre .1) in
+    drops-by (s .args .base) (s .args .time) (s .args .t1) o _ _ (c .before .before .count-aged .ensures)
+    (c .drop-oldest .ensures)
 
 pub age-spec : {M : Type 1} → statement M
 age-spec =
     tie.close
     (tie.spec
     count-aged-requires
-    drop-times-requires
-    drop-ontimes-requires
+    drop-oldest-requires
     sub-l
     returns)

@@ -1,7 +1,7 @@
 -- Make's outcome is the model's, laid out, and so every run from it is the gate's.
 use mathlib.Core.Path.{_≡_, sym, _∙_, subst⁻¹}
-use borrow.Author.Tests.{lt-ltb, le-ltb, not-true, not-false}
 use borrow.Author.Needs.{needs}
+use borrow.Author.Tests.{not-true, not-false, lt-ltb, le-ltb}
 use Rattle.rules.specs.Refusals.{firstOf}
 use Rattle.model.specs.Calls.{Making}
 use Rattle.model.specs.Gate.{makeIn}
@@ -42,23 +42,49 @@ returns-2 c =
     )
     (c .refused-make2 .ensures))
 
-fresh-requires : tie.Need-fresh-requires
-fresh-requires c κs = search needs
+is-list-refused-requires : tie.Need-is-list-refused-requires
+is-list-refused-requires c κs = search needs
 
-blank-state-requires : tie.Need-blank-state-requires
-blank-state-requires c κs = search needs
+refused-make-requires-3 : tie.Need-refused-make-requires-3
+refused-make-requires-3 c κs = search needs
 
 returns-3 : tie.Need-returns-3
 unfolding makeState makeIn firstOf
 returns-3 c =
-    let w = c .before .before in
+    let l = c .before in
+    let w = l .before .before in
     let b = w .before in
     both-clauses _ _
     (rw (
       sym (b .before .lies-within .ensures) ∙ not-false _ (b .if1 .left),
       le-ltb 1 (b .before .before .args .oldway) (w .if2 .left),
+      sym (l .before .is-list-refused .ensures) ∙ l .if3 .taken,
+    )
+    (c .refused-make3 .ensures))
+
+fresh-requires : tie.Need-fresh-requires
+fresh-requires c κs = search needs
+
+list-kept-requires : tie.Need-list-kept-requires
+list-kept-requires c κs = search needs
+
+blank-state-requires : tie.Need-blank-state-requires
+blank-state-requires c κs = search needs
+
+returns-4 : tie.Need-returns-4
+unfolding makeState makeIn firstOf
+returns-4 c =
+    let l = c .before .before .before in
+    let w = l .before .before in
+    let b = w .before in
+    both-clauses _ _
+    (rw (
+      sym (b .before .lies-within .ensures) ∙ not-false _ (b .if1 .left),
+      le-ltb 1 (b .before .before .args .oldway) (w .if2 .left),
+      sym (l .before .is-list-refused .ensures) ∙ l .if3 .left,
       c .blank-state .ensures,
-      c .before .fresh .ensures,
+      c .before .before .fresh .ensures,
+      c .before .list-kept .ensures,
     ))
 
 pub make-spec : {M : Type 1} → statement M
@@ -70,6 +96,10 @@ make-spec =
     returns
     refused-make-requires-2
     returns-2
+    is-list-refused-requires
+    refused-make-requires-3
+    returns-3
     fresh-requires
+    list-kept-requires
     blank-state-requires
-    returns-3)
+    returns-4)

@@ -1,5 +1,4 @@
 -- The blank state that is not live.
-use mathlib.Core.Path.{_≡_, ap, _∙_}
 use borrow.Author.Needs.{needs}
 use Rattle.plain.proofs.refused_make.Statement.{statement}
 use Rattle.plain.proofs.refused_make.Tie as tie
@@ -7,16 +6,14 @@ use Rattle.plain.proofs.refused_make.Tie as tie
 none-requires : tie.Need-none-requires
 none-requires c κs = search needs
 
+none-requires-2 : tie.Need-none-requires-2
+none-requires-2 c κs = search needs
+
 blank-state-requires : tie.Need-blank-state-requires
 blank-state-requires c κs = search needs
 
 returns : tie.Need-returns
-returns c = rw (c .blank-state .ensures, c .before .none .ensures)
+returns c = rw (c .blank-state .ensures, c .before .before .none .ensures, c .before .none2 .ensures)
 
 pub refused-make-spec : {M : Type 1} → statement M
-refused-make-spec =
-    tie.close
-    (tie.spec
-    none-requires
-    blank-state-requires
-    returns)
+refused-make-spec = tie.close (tie.spec none-requires none-requires-2 blank-state-requires returns)

@@ -10,7 +10,9 @@ remove-requires : tie.Need-remove-requires
 remove-requires c κs = search needs
 
 note-requires : tie.Need-note-requires
-note-requires c κs = (known _ (c .before .pre .0) .ledger-tight, c .before .pre .1)
+note-requires c κs =
+    let k = known _ (c .before .pre .0) in
+    (k .ledger-tight, (c .before .pre .1, (k .last-past, k .none-aged)))
 
 add-counts : tie.Need-add-counts
 add-counts c = let k = known _ (c .before .before .before .before .pre .0) in omega (arith, k .sum, k .most)

@@ -23,7 +23,9 @@ is-sound-requires c κs = search needs
 
 returns-3 : tie.Need-returns-3
 returns-3 c =
-    no _ _ (unsound-control (c .before .before .before .before .before .before .before .args .self)
+    let control = c .before in
+    let way = control .before .before .before .before in
+    no _ _ (unsound-control (way .before .before .before .before .args .self)
     (sym (c .before .is-sound .ensures) ∙ not-true _ (c .if3 .taken)))
 
 passes-end-requires : tie.Need-passes-end-requires
@@ -31,7 +33,9 @@ passes-end-requires c κs = search needs
 
 returns-4 : tie.Need-returns-4
 returns-4 c =
-    no _ _ (unsound-time (c .before .before .before .before .before .before .before .before .before .args .self)
+    let control = c .before .before .before in
+    let way = control .before .before .before .before in
+    no _ _ (unsound-time (way .before .before .before .before .args .self)
     (sym (c .before .passes-end .ensures) ∙ c .if4 .taken))
 
 is-last-sound-requires : tie.Need-is-last-sound-requires
@@ -39,8 +43,9 @@ is-last-sound-requires c κs = search needs
 
 returns-5 : tie.Need-returns-5
 returns-5 c =
-    no _ _ (unsound-last
-    (c .before .before .before .before .before .before .before .before .before .before .before .before .args .self)
+    let control = c .before .before .before .before .before .before in
+    let way = control .before .before .before .before in
+    no _ _ (unsound-last (way .before .before .before .before .args .self)
     (sym (c .before .is-last-sound .ensures) ∙ not-true _ (c .if5 .taken)))
 
 is-sound-requires-2 : tie.Need-is-sound-requires-2
@@ -51,7 +56,8 @@ returns-6 c =
     let line = c .before in
     let last = line .before .before .before in
     let time = last .before .before .before in
-    let s = time .before .before .before .before .before .before .before .before in
+    let way = time .before .before .before .before .before .before in
+    let s = way .before .before .before .before in
     no _ _ (unsound-line (s .args .self) (sym (line .is-sound2 .ensures .0) ∙ not-true _ (c .if6 .taken)))
 
 are-counts-sound-requires : tie.Need-are-counts-sound-requires
@@ -61,7 +67,8 @@ returns-7 : tie.Need-returns-7
 returns-7 c =
     let line = c .before .before .before .before in
     let time = line .before .before .before .before .before .before in
-    let s = time .before .before .before .before .before .before .before .before in
+    let way = time .before .before .before .before .before .before in
+    let s = way .before .before .before .before in
     let tight = line .is-sound2 .ensures .1 (not-false _ (c .before .before .before .if6 .left)) in
     no _ _ (unsound-counts (s .args .self) tight (sym (c .before .are-counts-sound .ensures) ∙ not-true _ (c .if7 .taken)))
 
@@ -78,7 +85,7 @@ returns-8 c =
     let last = line .before .before .before in
     let time = last .before .before .before in
     let control = time .before .before in
-    let way = control .before .before in
+    let way = control .before .before .before .before in
     let live = way .before .before in
     let s = live .before .before in
     let tight = line .is-sound2 .ensures .1 (not-false _ (counts .before .before .if6 .left)) in

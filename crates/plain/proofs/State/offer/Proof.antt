@@ -9,7 +9,7 @@ use Rattle.model.specs.Effects.{refreshed, effect}
 use Rattle.model.specs.Gate.{numberChecks}
 use Rattle.plain.specs.declared.State.{State}
 use Rattle.plain.specs.Layout.{viewOf, outcome}
-use Rattle.plain.proofs.Views.{given-of, sound-parts}
+use Rattle.plain.proofs.Views.{moved-writable, given-of, sound-parts}
 use Rattle.plain.proofs.Doing.{offer-own, offer-room, offer-priority, room-at, offered}
 use Rattle.plain.proofs.Entry.{entered, refreshed-given, entry-refused, own-refused, accepted}
 use borrow.Author.Needs.{needs}
@@ -104,6 +104,7 @@ returns-4 c =
     (c .before .before .before .before .refresh .ensures)) ∙ sym (c .before .before .before .room-refusal .ensures) in
     ap (λ (x : State). outcome x Taken)
     (offered (c .before .before .before .before .refresh .result) (c .join .result) w (s .args .o) _
+    (moved-writable (s .args .self) (s .args .stamp))
     (c .before .before .before .before .refresh .ensures) (c .before .packet-of .ensures) (c .join .ensures))
     ∙ accepted (s .args .self) (offer (s .args .stamp) (s .args .o)) e (number ∙ c .before .before .if3 .left)
 

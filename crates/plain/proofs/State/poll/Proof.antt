@@ -60,7 +60,7 @@ returns-3 c =
     let a = c .before .before .before .before .before .refresh in
     let p = c .before .before .pick .result in
     let first = picks-at (a .result) w p (a .ensures) (c .before .before .before .if2 .left) (c .before .before .pick .ensures) in
-    let wait = left-at (a .result) w p _ (a .ensures) (c .before .left-for .ensures) in
+    let wait = left-at (a .result) w p _ (a .ensures) h (c .before .left-for .ensures) in
     closes (a .result) w p _ (a .ensures) h first wait (c .if3 .taken)
     ∙ accepted (s .args .self) (poll (s .args .stamp)) e (none-own (viewOf (s .args .self)) (s .args .stamp))
 
@@ -75,7 +75,7 @@ admit-requires c κs =
     let a = c .before .before .before .before .before .refresh in
     let p = c .before .before .pick .result in
     let first = picks-at (a .result) w p (a .ensures) (c .before .before .before .if2 .left) (c .before .before .pick .ensures) in
-    let wait = left-at (a .result) w p _ (a .ensures) (c .before .left-for .ensures) in (
+    let wait = left-at (a .result) w p _ (a .ensures) h (c .before .left-for .ensures) in (
       given-of _ _ (a .ensures) h,
       room-left (s .args .self) (a .result) (s .args .stamp) p _ e (a .ensures) h first wait
           (c .if3 .left),
@@ -94,7 +94,7 @@ returns-4 c =
     let p = c .before .before .before .pick .result in
     let first = picks-at (a .result) w p (a .ensures) (c .before .before .before .before .if2 .left)
     (c .before .before .before .pick .ensures) in
-    let wait = left-at (a .result) w p _ (a .ensures) (c .before .before .left-for .ensures) in
+    let wait = left-at (a .result) w p _ (a .ensures) h (c .before .before .left-for .ensures) in
     sends (a .result) (c .admit .result) w p _ (a .ensures) h first wait (c .before .if3 .left) (c .admit .ensures)
     ∙ accepted (s .args .self) (poll (s .args .stamp)) e (none-own (viewOf (s .args .self)) (s .args .stamp))
 
