@@ -48,11 +48,11 @@ pub const STRETCH_MOST: u64 = 30_000;
 /// W-207: the shortest time between two admissions, in µs.
 pub const APART: u64 = 25_000;
 
-/// W-202 and W-209: in this profile an admission so many µs ago no longer keeps
-/// a poll from sending. Only the four profiles have runs.
+/// W-202, W-209 and W-213: in this profile an admission so many µs ago no longer
+/// keeps a poll from sending. Only the five profiles have runs.
 pub fn floor(profile: u32) -> u64 {
     match profile {
-        1 => 1_001_000,
+        1 | 5 => 1_001_000,
         2 => 1_000_500,
         3 => 1_000_000,
         _ => 1_004_000,

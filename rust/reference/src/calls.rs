@@ -2,8 +2,8 @@
 
 use crate::state::Packet;
 
-/// "Refusal numbers" and W-209: profile not 1 to 4. W-205: or an old way that is
-/// neither yes nor no.
+/// "Refusal numbers" and W-213: profile not 1 to 5, in a log not 1 to 4. W-205: or
+/// an old way that is neither yes nor no.
 pub const BAD_PROFILE: u32 = 1;
 /// "Refusal numbers": step of 2,147,483,648 or more.
 pub const CLOCK_BACK: u32 = 2;
@@ -34,6 +34,33 @@ pub const TORN_LOG: u32 = 13;
 /// W-211: a load that does not compare as 0.0 to 1.0, or a duty that does not as
 /// 0.0006 to 0.03.
 pub const BAD_FLOAT: u32 = 14;
+/// W-213: a make of profile 5 with a list of levels that breaks a rule.
+pub const BAD_LIST: u32 = 15;
+
+/// The names of the refusal numbers, from 1 on.
+const NAMES: [&str; BAD_LIST as usize] = [
+    "BAD-PROFILE",
+    "CLOCK-BACK",
+    "CLOCK-END",
+    "BAD-SAMPLE",
+    "BAD-PRIORITY",
+    "BAD-ON-TIME",
+    "BAD-LIFETIME",
+    "QUEUE-FULL",
+    "NO-STATE",
+    "BAD-KIND",
+    "SPENT",
+    "NO-ROOM",
+    "TORN-LOG",
+    "BAD-FLOAT",
+    "BAD-LIST",
+];
+
+/// The name of a refusal number, if it is one.
+pub fn refusal_name(number: u32) -> Option<&'static str> {
+    let at = number.checked_sub(1)?;
+    NAMES.get(at as usize).copied()
+}
 
 /// A call on the state: everything but make.
 #[derive(Clone, Debug, PartialEq, Eq)]

@@ -106,9 +106,9 @@ pub fn duty_update(duty: u32, smoothed: u32, kept: u32, new: u32) -> DutyResult 
 }
 
 /// The wait after an admission; every number is judged, used or not. W-209: the
-/// latest load is the last of them.
+/// latest load is the last of them. W-213: a profile that needs a list is refused.
 pub fn wait(profile: u32, level: u32, duty: u32, ontime: u32, load: u32) -> WaitResult {
-    if !rules::profile_known(profile) {
+    if !rules::profile_known(profile) || rules::needs_list(profile) {
         return wait_refused(BAD_PROFILE);
     }
     if level > rules::LEVEL_MOST || !rules::duty_allowed(duty) {

@@ -5,20 +5,28 @@
 
 pub use crate::calls::{Answer, Call};
 use crate::calls::{
-    BAD_LIFETIME, BAD_ON_TIME, BAD_PRIORITY, BAD_PROFILE, BAD_SAMPLE, CLOCK_BACK, CLOCK_END,
-    NO_STATE, QUEUE_FULL, SPENT,
+    BAD_LIFETIME, BAD_LIST, BAD_ON_TIME, BAD_PRIORITY, BAD_PROFILE, BAD_SAMPLE, CLOCK_BACK,
+    CLOCK_END, NO_STATE, QUEUE_FULL, SPENT,
 };
+use crate::levels::Levels;
 use crate::rules;
 use crate::state::{sound, Admission, Ledger, Packet, Queue, State, QUEUES, SLOTS};
 
 /// Makes a fresh state, in the old way if that is 1 and in the new way if it
-/// is 0; a refusal hands back the all-zero, not live one.
-pub fn make(profile: u32, oldway: u32, stamp: u32) -> (State, Answer) {
-    if rules::profile_known(profile) && rules::way_known(oldway) {
-        (State::fresh(profile, oldway, stamp), Answer::Ready)
-    } else {
-        (State::default(), Answer::Refused(BAD_PROFILE))
+/// is 0: 1, then 15, which is for profile 5 alone; the others look at no list.
+/// A refusal hands back the all-zero, not live state.
+pub fn make(profile: u32, oldway: u32, levels: &Levels, stamp: u32) -> (State, Answer) {
+    if !rules::profile_known(profile) || !rules::way_known(oldway) {
+        return (State::default(), Answer::Refused(BAD_PROFILE));
     }
+    if rules::needs_list(profile) && !levels.good() {
+        return (State::default(), Answer::Refused(BAD_LIST));
+    }
+    let mut state = State::fresh(profile, oldway, stamp);
+    if rules::needs_list(profile) {
+        state.levels = levels.cleared();
+    }
+    (state, Answer::Ready)
 }
 
 /// A sample of so many probes, by words.
@@ -147,8 +155,9 @@ fn sample(state: State, load: Option<u32>, stamp: u32) -> (State, Answer) {
     }
 }
 
-/// "Samples" and W-209: profiles 1 and 2 step the level; profile 3 keeps or
-/// pairs; profile 4 remembers the latest load.
+/// "Samples", W-209 and W-213: profiles 1 and 2 step the level; profile 3 keeps
+/// or pairs; profile 4 remembers the latest load; profile 5 the last fifty, and
+/// moves its level at once.
 fn load_learnt(state: State, load: u32) -> State {
     if let Some(wanted) = rules::wanted_level(state.profile, load) {
         let level = rules::level_step(state.level, wanted);
@@ -156,6 +165,7 @@ fn load_learnt(state: State, load: u32) -> State {
     }
     match state.profile {
         3 => paired(state, load),
+        5 => levelled(state, load),
         _ => State {
             latest: load,
             ..state
@@ -179,6 +189,16 @@ fn paired(state: State, load: u32) -> State {
         duty: rules::duty_next(state.duty, smoothed),
         kept: 0,
         haskept: false,
+        ..state
+    }
+}
+
+/// W-213: the load is counted, then the level moved.
+fn levelled(state: State, load: u32) -> State {
+    let loads = state.loads.after(load);
+    State {
+        level: state.levels.level_next(state.level, loads.held()),
+        loads,
         ..state
     }
 }

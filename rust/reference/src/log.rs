@@ -2,8 +2,9 @@
 
 use std::io::{self, ErrorKind, Read, Write};
 
-use crate::calls::BAD_KIND;
+use crate::calls::{BAD_KIND, BAD_PROFILE};
 use crate::gate::{self, Answer, Call};
+use crate::levels::Levels;
 use crate::rules;
 use crate::state::State;
 
@@ -74,6 +75,8 @@ pub enum LogCall {
         profile: u32,
         /// The old way: 1 for yes and 0 for no.
         oldway: u32,
+        /// The list of levels, which a log can't carry: one that was read is empty.
+        levels: Levels,
         /// The radio's count.
         stamp: u32,
     },
@@ -96,6 +99,7 @@ pub fn read(record: &Record) -> Result<LogCall, u32> {
         0 => Ok(LogCall::Make {
             profile: priority,
             oldway: lifetime,
+            levels: Levels::default(),
             stamp,
         }),
         1 => Ok(LogCall::On(Call::SampleCount {
@@ -115,6 +119,14 @@ pub fn read(record: &Record) -> Result<LogCall, u32> {
     }
 }
 
+/// A make that a log says. W-213: a profile that needs a list is refused.
+pub fn make(profile: u32, oldway: u32, stamp: u32) -> (State, Answer) {
+    if rules::needs_list(profile) {
+        return (State::default(), Answer::Refused(BAD_PROFILE));
+    }
+    gate::make(profile, oldway, &Levels::default(), stamp)
+}
+
 /// One step of the program: a record on a state.
 pub fn step(state: State, record: &Record) -> (State, Answer) {
     match read(record) {
@@ -122,7 +134,8 @@ pub fn step(state: State, record: &Record) -> (State, Answer) {
             profile,
             oldway,
             stamp,
-        }) => gate::make(profile, oldway, stamp),
+            ..
+        }) => make(profile, oldway, stamp),
         Ok(LogCall::On(call)) => gate::call(state, &call),
         Err(number) => (state, Answer::Refused(number)),
     }

@@ -66,6 +66,24 @@ pub struct Harmonised {
     pub wait_from: WaitFrom,
 }
 
+/// The constants of the first edition's profile (W-213). Its thresholds and
+/// waits come with the list that it is made with.
+#[derive(Clone, Copy, Debug, PartialEq, Eq)]
+pub struct FirstEdition {
+    /// Longest on-time allowed, in µs. The shortest is 1.
+    pub on_time_max: u32,
+    /// The shortest wait that a list may have, in µs.
+    pub wait_least: u32,
+    /// The longest wait that a list may have, in µs.
+    pub wait_most: u32,
+    /// Low is the least load of so many last samples.
+    pub low_samples: usize,
+    /// High is the greatest load of so many last samples.
+    pub high_samples: usize,
+    /// Where the wait starts.
+    pub wait_from: WaitFrom,
+}
+
 /// Profile 1: reactive, Table A.1.
 pub const PROFILE_1: Reactive = Reactive {
     on_time_max: 1_000,
@@ -109,13 +127,23 @@ pub const PROFILE_4: Harmonised = Harmonised {
     wait_from: WaitFrom::End,
 };
 
+/// Profile 5: the first edition's state machine, V1.1.1 (W-213).
+pub const PROFILE_5: FirstEdition = FirstEdition {
+    on_time_max: 1_000,
+    wait_least: 40_000,
+    wait_most: 1_000_000,
+    low_samples: 10,
+    high_samples: 50,
+    wait_from: WaitFrom::End,
+};
+
 /// The least duty of any state ("State and calls"), and a fresh state's.
 pub const DUTY_LEAST: u32 = 600_000;
 /// The greatest duty of any state ("State and calls").
 pub const DUTY_MOST: u32 = 30_000_000;
 /// The greatest load: every probe busy.
 pub const LOAD_MOST: u32 = 1_000_000;
-/// The highest level, Restrictive.
+/// The highest level, Restrictive. W-213: in profile 5 the list tells it.
 pub const LEVEL_MOST: u32 = 4;
 /// The number of probes that a sample had before W-208, and has in a log that
 /// does not tell it.
@@ -142,9 +170,15 @@ pub const OLD_WAY: u32 = 1;
 /// The highest priority number.
 pub const PRIORITY_MOST: u32 = 3;
 
-/// Whether the profile is one of the four.
+/// Whether the profile is one of the five.
 pub fn profile_known(profile: u32) -> bool {
-    (1..=4).contains(&profile)
+    (1..=5).contains(&profile)
+}
+
+/// W-213: whether the profile goes by a list of levels. A log and the C stack's
+/// plain numbers can't carry one.
+pub fn needs_list(profile: u32) -> bool {
+    profile == 5
 }
 
 /// W-205: whether the number is a yes or a no to the old way.
@@ -161,18 +195,19 @@ pub fn reactive(profile: u32) -> Option<Reactive> {
     }
 }
 
-/// "The three profiles" and W-209: the longest on-time allowed.
+/// "The three profiles", W-209 and W-213: the longest on-time allowed.
 pub fn on_time_max(profile: u32) -> Option<u32> {
     match profile {
         1 => Some(PROFILE_1.on_time_max),
         2 => Some(PROFILE_2.on_time_max),
         3 => Some(PROFILE_3.on_time_max),
         4 => Some(PROFILE_4.on_time_max),
+        5 => Some(PROFILE_5.on_time_max),
         _ => None,
     }
 }
 
-/// "The three profiles" and W-209: whether the profile allows the on-time.
+/// "The three profiles", W-209 and W-213: whether the profile allows the on-time.
 /// An unknown profile allows none.
 pub fn on_time_allowed(profile: u32, ontime: u32) -> bool {
     match on_time_max(profile) {
@@ -338,7 +373,7 @@ pub fn wait_harmonised(load: u32, ontime: u32) -> u32 {
 }
 
 /// "Waiting and leaving" and W-209: the wait, by profile. `latest` is the
-/// latest load.
+/// latest load. Profile 5 has no wait on plain numbers.
 pub fn wait(profile: u32, level: u32, duty: u32, ontime: u32, latest: u32) -> Option<u32> {
     match profile {
         1 | 2 => wait_reactive(profile, level),
@@ -348,25 +383,31 @@ pub fn wait(profile: u32, level: u32, duty: u32, ontime: u32, latest: u32) -> Op
     }
 }
 
-/// W-202 and W-209: where the profile's wait starts.
+/// W-202, W-209 and W-213: where the profile's wait starts.
 pub fn wait_from(profile: u32) -> Option<WaitFrom> {
     match profile {
         1 => Some(PROFILE_1.wait_from),
         2 => Some(PROFILE_2.wait_from),
         3 => Some(PROFILE_3.wait_from),
         4 => Some(PROFILE_4.wait_from),
+        5 => Some(PROFILE_5.wait_from),
         _ => None,
     }
 }
 
-/// W-202: how long after an admission the gate is closed: the wait, and before
-/// it the on-time where the wait starts at the end. `ontime` is the admitted
-/// packet's.
+/// W-202: how long after an admission the gate is closed, by profile. `ontime`
+/// is the admitted packet's.
 pub fn closed_for(profile: u32, level: u32, duty: u32, ontime: u32, latest: u32) -> Option<u64> {
-    let wait = u64::from(wait(profile, level, duty, ontime, latest)?);
+    let wait = wait(profile, level, duty, ontime, latest)?;
+    closed_with(profile, ontime, wait)
+}
+
+/// W-202: how long after an admission a wait keeps the gate closed: the wait, and
+/// before it the on-time where the profile's wait starts at the end.
+pub fn closed_with(profile: u32, ontime: u32, wait: u32) -> Option<u64> {
     match wait_from(profile)? {
-        WaitFrom::Start => Some(wait),
-        WaitFrom::End => Some(u64::from(ontime) + wait),
+        WaitFrom::Start => Some(u64::from(wait)),
+        WaitFrom::End => Some(u64::from(ontime) + u64::from(wait)),
     }
 }
 

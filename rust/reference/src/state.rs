@@ -1,10 +1,13 @@
 //! The state, and what makes one sound ("State and calls", W-201's counts,
-//! W-205's way, W-207's ledger and W-209's latest load).
+//! W-205's way, W-207's ledger, W-209's latest load, and W-213's list of levels
+//! and last loads).
 //!
 //! The fields are raw, so that any state a host could build can be judged.
 
 use std::fmt;
 
+use crate::levels::LOADS_ROOM;
+pub use crate::levels::{Levels, Loads};
 use crate::rules;
 
 /// The number of slots in a queue.
@@ -169,7 +172,7 @@ impl Counts {
 pub struct State {
     /// Whether it is live.
     pub live: bool,
-    /// The profile, 1 to 4.
+    /// The profile, 1 to 5.
     pub profile: u32,
     /// Whether it was made in the old way: 1 if so, 0 if not.
     pub oldway: u32,
@@ -177,7 +180,7 @@ pub struct State {
     pub stamp: u32,
     /// The running time in µs.
     pub time: u64,
-    /// The level, 0 to 4.
+    /// The level, 0 to 4; in profile 5 one of its list.
     pub level: u32,
     /// The duty.
     pub duty: u32,
@@ -198,6 +201,10 @@ pub struct State {
     pub ontime: u32,
     /// The admissions of the last second.
     pub ledger: Ledger,
+    /// W-213: the loads of the last samples accepted; none in the other profiles.
+    pub loads: Loads,
+    /// W-213: the list of levels; empty in the other profiles.
+    pub levels: Levels,
     /// The four queues, by priority.
     pub queues: [Queue; QUEUES],
     /// What was accepted, sent, expired and displaced.
@@ -205,7 +212,7 @@ pub struct State {
 }
 
 impl State {
-    /// A fresh state.
+    /// A fresh state, its list empty: profile 5's comes with make.
     pub fn fresh(profile: u32, oldway: u32, stamp: u32) -> State {
         State {
             live: true,
@@ -224,13 +231,16 @@ impl State {
 
     /// The wait after a packet of that on-time, taken now.
     pub fn wait(&self, ontime: u32) -> Option<u32> {
+        if rules::needs_list(self.profile) {
+            return self.levels.wait_of(self.level);
+        }
         rules::wait(self.profile, self.level, self.duty, ontime, self.latest)
     }
 
     /// How long after its admission a packet of that on-time keeps the gate
     /// closed, taken now.
     pub fn closed_for(&self, ontime: u32) -> Option<u64> {
-        rules::closed_for(self.profile, self.level, self.duty, ontime, self.latest)
+        rules::closed_with(self.profile, ontime, self.wait(ontime)?)
     }
 
     /// The last admission, if anything was admitted.
@@ -281,11 +291,13 @@ impl State {
 type Rule = (&'static str, fn(&State) -> bool);
 
 /// The rules in the order of the paper's list, then W-201's two, W-205's, those
-/// of W-207 in the order of its list, and W-209's two.
-const RULES: [Rule; 32] = [
+/// of W-207 in the order of its list, W-209's two and W-213's.
+const RULES: [Rule; 40] = [
     ("live", |s| s.live),
-    ("profile 1 to 4", |s| rules::profile_known(s.profile)),
-    ("level at most 4", |s| s.level <= rules::LEVEL_MOST),
+    ("profile 1 to 5", |s| rules::profile_known(s.profile)),
+    ("level at most 4", |s| {
+        rules::needs_list(s.profile) || s.level <= rules::LEVEL_MOST
+    }),
     ("duty within limits", |s| rules::duty_allowed(s.duty)),
     ("smoothed load at most 1,000,000", |s| {
         s.smoothed <= rules::LOAD_MOST
@@ -350,7 +362,36 @@ const RULES: [Rule; 32] = [
     ("latest load zero outside profile 4", |s| {
         s.profile == 4 || s.latest == 0
     }),
+    ("list good in profile 5", |s| listed(s, |s| s.levels.good())),
+    ("list room past the length zero", |s| {
+        listed(s, |s| s.levels.unused_zero())
+    }),
+    ("level at most the list's in profile 5", |s| {
+        listed(s, |s| u64::from(s.level) <= s.levels.len)
+    }),
+    ("list zero outside profile 5", |s| {
+        rules::needs_list(s.profile) || s.levels == Levels::default()
+    }),
+    ("last loads at most 50", |s| {
+        listed(s, |s| s.loads.len <= LOADS_ROOM as u64)
+    }),
+    ("last loads at most 1,000,000", |s| {
+        listed(s, |s| {
+            s.loads.held().iter().all(|load| *load <= rules::LOAD_MOST)
+        })
+    }),
+    ("last loads' room past the length zero", |s| {
+        listed(s, |s| s.loads.unused().iter().all(|room| *room == 0))
+    }),
+    ("last loads zero outside profile 5", |s| {
+        rules::needs_list(s.profile) || s.loads == Loads::default()
+    }),
 ];
+
+/// W-213: what a rule of profile 5 says of the others is nothing.
+fn listed(state: &State, holds: fn(&State) -> bool) -> bool {
+    !rules::needs_list(state.profile) || holds(state)
+}
 
 /// W-207: "in order of time, gaps at least 25,000 µs".
 fn ledger_spaced(state: &State) -> bool {

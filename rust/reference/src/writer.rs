@@ -36,6 +36,7 @@ pub fn record_of(call: &LogCall) -> Result<Record, u32> {
             profile,
             oldway,
             stamp,
+            ..
         } => make(profile, oldway, stamp),
         LogCall::On(Call::SampleWords {
             probes,
@@ -69,9 +70,10 @@ pub fn record_of(call: &LogCall) -> Result<Record, u32> {
     }
 }
 
-/// A make: its field has room for a yes and a no alone.
+/// A make: its field has room for a yes and a no alone. W-213: a list has no
+/// field, so a profile that needs one is refused, and others go without.
 fn make(profile: u32, oldway: u32, stamp: u32) -> Result<Record, u32> {
-    if !rules::way_known(oldway) {
+    if !rules::way_known(oldway) || rules::needs_list(profile) {
         return Err(BAD_PROFILE);
     }
     Ok(Record {

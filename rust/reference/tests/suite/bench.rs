@@ -1,6 +1,6 @@
 //! "Bench readings", every line.
 
-use crate::help::{fresh, offered, sampled, Answer};
+use crate::help::{fresh, offered, sampled, Answer, PROFILES};
 use reference::{ccalls, gate, rules};
 
 fn wants(load: u32, in_profile_1: u32, in_profile_2: u32) {
@@ -90,7 +90,7 @@ fn four_samples_from_relaxed_to_restrictive() {
 
 #[test]
 fn lifetime_ends_at_its_age() {
-    for profile in [1, 2, 3, 4] {
+    for profile in PROFILES {
         let state = offered(fresh(profile), 5, 0, 60_000, 0);
         let (_, answer) = gate::poll(state, 59_999);
         assert!(matches!(answer, Answer::Sent(packet) if packet.id == 5));

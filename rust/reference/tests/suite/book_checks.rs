@@ -1,6 +1,6 @@
 //! The book checker rejects wrong gates, and its ceiling is every window's.
 
-use crate::help::{admission, counts, displaced, since, Answer, Call};
+use crate::help::{admission, counts, displaced, made, since, Answer, Call, PROFILES};
 use crate::runs::Caller;
 use reference::book::Book;
 use reference::gate;
@@ -327,7 +327,7 @@ fn gates_with_a_bad_ledger_are_rejected() {
         }),
     ];
     for (slip, memory) in slips {
-        let (mut state, _) = gate::make(3, 0, 0);
+        let (mut state, _) = made(3, 0, 0);
         state.duty = 30_000_000;
         let mut book = Book::new(3, 0);
         let said = (0..100u32).find_map(|turn| {
@@ -354,7 +354,12 @@ fn closed_where_the_floor_says_send() {
         Answer::Closed(5),
         "floor",
     );
-    for (profile, floor) in [(1, 1_001_000), (2, 1_000_500), (3, 1_000_000)] {
+    for (profile, floor) in [
+        (1, 1_001_000),
+        (2, 1_000_500),
+        (3, 1_000_000),
+        (5, 1_001_000),
+    ] {
         let fed = [
             (offer(1, 3, 9, 60_000_000, 0), Answer::Taken),
             (offer(2, 3, 9, 60_000_000, 0), Answer::Taken),
@@ -628,8 +633,8 @@ fn wrong_answers(rng: &mut Rng, right: &Answer, state: &State) -> Vec<Answer> {
 
 #[test]
 fn changed_answers_in_random_runs_are_rejected() {
-    for profile in [1, 2, 3, 4] {
-        let (mut state, _) = gate::make(profile, 0, 0);
+    for profile in PROFILES {
+        let (mut state, _) = made(profile, 0, 0);
         let mut book = Book::new(profile, 0);
         let mut caller = Caller::new(profile, 40);
         let mut rng = Rng::new(41);
@@ -711,7 +716,7 @@ const SLIPS: [(&str, Slip); 10] = [
 #[test]
 fn gates_that_count_wrongly_are_rejected() {
     for (slip, added) in SLIPS {
-        let (mut state, _) = gate::make(1, 0, 0);
+        let (mut state, _) = made(1, 0, 0);
         let mut book = Book::new(1, 0);
         let mut caller = Caller::new(1, 60);
         let mut wrong = Counts::default();
@@ -737,7 +742,7 @@ fn gates_that_count_wrongly_are_rejected() {
 fn gates_without_a_wait_or_that_never_open_are_rejected() {
     for profile in [1, 3] {
         for silent in [false, true] {
-            let (mut state, _) = gate::make(profile, 0, 0);
+            let (mut state, _) = made(profile, 0, 0);
             let mut book = Book::new(profile, 0);
             let mut caller = Caller::new(profile, 50);
             let rejected = (0..20_000).any(|_| {

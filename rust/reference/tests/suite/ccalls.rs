@@ -23,7 +23,7 @@ fn no_wait(refusal: u32) -> WaitResult {
 
 #[test]
 fn wanted_level_refusals() {
-    for profile in [0, 3, 4, BAD] {
+    for profile in [0, 3, 4, 5, BAD] {
         assert_eq!(wanted_level(profile, 0), no_level(1));
         assert_eq!(wanted_level(profile, BAD), no_level(1));
     }
@@ -40,7 +40,7 @@ fn wanted_level_refusals() {
 
 #[test]
 fn level_step_refusals_in_order() {
-    for profile in [0, 3, 4, BAD] {
+    for profile in [0, 3, 4, 5, BAD] {
         assert_eq!(level_step(profile, BAD, BAD), no_level(1));
         assert_eq!(level_step(profile, 0, 0), no_level(1));
     }

@@ -1,6 +1,6 @@
 //! "The clock": steps, wrapping, going back, and the end at 10^15.
 
-use crate::help::{assert_refused, fresh, offered, Answer, PROFILES};
+use crate::help::{assert_refused, fresh, made, offered, Answer, PROFILES};
 use reference::rng::Rng;
 use reference::{gate, rules};
 
@@ -24,7 +24,7 @@ fn step_is_the_difference_modulo_two_to_32() {
 fn half_a_turn_is_going_back() {
     for start in [0, 1, HALF - 1, HALF, u32::MAX] {
         for profile in PROFILES {
-            let (state, _) = gate::make(profile, 0, start);
+            let (state, _) = made(profile, 0, start);
             let (next, answer) = gate::poll(state, start.wrapping_add(HALF - 1));
             assert_eq!(answer, Answer::Idle);
             assert_eq!(next.time, u64::from(HALF) - 1);
@@ -49,7 +49,7 @@ fn a_refused_call_moves_no_clock() {
 
 #[test]
 fn many_wraps_add_up() {
-    let (mut state, _) = gate::make(2, 0, 4_000_000_000);
+    let (mut state, _) = made(2, 0, 4_000_000_000);
     let mut stamp = 4_000_000_000u32;
     for turn in 1..=1_000u64 {
         stamp = stamp.wrapping_add(2_000_000_000);

@@ -1,8 +1,8 @@
 //! W-201 and W-205: what each call counts, and the end of the offers at 10^15.
 
 use crate::help::{
-    assert_refused, counts, displaced, fresh, late, offered, old, sampled, sent, since, words,
-    Answer, ACCEPTED_MOST, PROFILES, WAYS,
+    assert_refused, counts, displaced, fresh, late, made, offered, old, sampled, sent, since,
+    words, Answer, ACCEPTED_MOST, PROFILES, WAYS,
 };
 use crate::runs::Caller;
 use reference::book::Book;
@@ -15,9 +15,9 @@ const BACK: u32 = 2_147_483_648;
 
 #[test]
 fn a_fresh_state_and_the_not_live_one_have_counted_nothing() {
-    for profile in 0..=4 {
+    for profile in 0..=6 {
         for oldway in WAYS {
-            let (state, _) = gate::make(profile, oldway, 7);
+            let (state, _) = made(profile, oldway, 7);
             assert_eq!(state.counts, counts(0, 0, 0));
         }
     }

@@ -1,8 +1,8 @@
 //! W-205: a full queue drops its oldest, or refuses if the gate was made so.
 
 use crate::help::{
-    assert_refused, counts, displaced, fresh, late, offered, old, sampled, since, Answer, Call,
-    ACCEPTED_MOST, PROFILES, WAYS,
+    assert_refused, counts, displaced, fresh, late, made, offered, old, sampled, since, Answer,
+    Call, ACCEPTED_MOST, PROFILES, WAYS,
 };
 use crate::runs::Caller;
 use reference::gate;
@@ -144,7 +144,7 @@ fn a_refused_offer_displaces_nothing() {
 fn the_way_is_fixed_at_making() {
     for profile in PROFILES {
         for oldway in WAYS {
-            let (mut state, _) = gate::make(profile, oldway, 0);
+            let (mut state, _) = made(profile, oldway, 0);
             let mut caller = Caller::new(profile, 205);
             for _ in 0..5_000 {
                 let (next, answer) = gate::call(state, &caller.call(state.stamp));

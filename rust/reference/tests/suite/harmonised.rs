@@ -1,6 +1,6 @@
 //! W-209: the harmonised profile, number 4.
 
-use crate::help::{admission, assert_refused, fresh, late, sampled, Answer, Call};
+use crate::help::{admission, assert_refused, fresh, late, made, sampled, Answer, Call};
 use crate::runs::told;
 use reference::book::{owes_ceiling, Book};
 use reference::rules::{closed_for, factor, per_mille, wait_harmonised};
@@ -169,7 +169,7 @@ fn a_sample_changes_the_wait() {
 /// 29,000 µs. The 30,000 of any second hold them.
 #[test]
 fn profile_4_passes_the_ceiling_and_keeps_the_second() {
-    let mut run = (gate::make(4, 0, 0).0, Book::new(4, 0));
+    let mut run = (made(4, 0, 0).0, Book::new(4, 0));
     let mut stamp = 0u32;
     let mut sent = Vec::new();
     for id in 0..40 {

@@ -2,12 +2,15 @@
 
 use reference::gate;
 use reference::rules;
-use reference::state::{Admission, Counts, Packet, Queue, State};
+use reference::state::{Admission, Counts, Levels, Packet, Queue, State};
 
 pub use reference::gate::{Answer, Call};
 
-/// The four profiles.
-pub const PROFILES: [u32; 4] = [1, 2, 3, 4];
+/// The five profiles.
+pub const PROFILES: [u32; 5] = [1, 2, 3, 4, 5];
+
+/// The longest on-time of each of them.
+pub const ON_TIMES: [(u32, u32); 5] = [(1, 1_000), (2, 500), (3, 4_000), (4, 4_000), (5, 1_000)];
 
 /// The two ways that a gate is made in: a full queue drops its oldest, or it
 /// refuses.
@@ -44,9 +47,33 @@ pub fn since(start: Counts, now: Counts) -> Counts {
     }
 }
 
+/// A list of four levels above level 0, each with a wait of its own.
+pub fn four_levels() -> Levels {
+    let listed = [
+        (300_000, 200_000),
+        (400_000, 400_000),
+        (500_000, 500_000),
+        (600_000, 1_000_000),
+    ];
+    Levels::of(40_000, &listed)
+}
+
+/// The list that a gate of the profile is made with in most tests.
+pub fn list(profile: u32) -> Levels {
+    match profile {
+        5 => four_levels(),
+        _ => Levels::default(),
+    }
+}
+
+/// A make with that list.
+pub fn made(profile: u32, oldway: u32, stamp: u32) -> (State, Answer) {
+    gate::make(profile, oldway, &list(profile), stamp)
+}
+
 /// A fresh state at stamp 0, made in the new way.
 pub fn fresh(profile: u32) -> State {
-    let (state, answer) = gate::make(profile, 0, 0);
+    let (state, answer) = made(profile, 0, 0);
     assert_eq!(answer, Answer::Ready);
     state
 }

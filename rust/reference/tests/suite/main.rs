@@ -7,6 +7,7 @@ mod ccalls;
 mod clock;
 mod counts;
 mod displacement;
+mod first_edition;
 mod harmonised;
 mod help;
 mod log_program;

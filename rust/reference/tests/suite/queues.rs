@@ -1,7 +1,7 @@
 //! "Waiting and leaving": order, expiry, the wait.
 
 use crate::help::{
-    admission, assert_refused, fresh, late, offered, old, sampled, sent, Answer, PROFILES,
+    admission, assert_refused, fresh, late, made, offered, old, sampled, sent, Answer, PROFILES,
 };
 use reference::state::Packet;
 use reference::{gate, rules};
@@ -25,7 +25,7 @@ fn lowest_queue_first_oldest_first() {
 
 #[test]
 fn sent_carries_the_whole_packet() {
-    let (state, _) = gate::make(3, 0, 100);
+    let (state, _) = made(3, 0, 100);
     let (state, _) = gate::offer(state, 9, 2, 4_000, 50_000, 107);
     let (state, answer) = gate::poll(state, 120);
     let packet = Packet {

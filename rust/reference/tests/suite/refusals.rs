@@ -1,16 +1,17 @@
 //! "Refusal numbers": each number at its boundary, and the order of checks.
 
-use crate::help::{assert_refused, fresh, late, old, Answer, PROFILES, WAYS};
-use reference::gate;
+use crate::help::{assert_refused, fresh, late, made, old, Answer, ON_TIMES, PROFILES, WAYS};
 use reference::state::State;
+use reference::{calls, gate};
 
 const BACK: u32 = 2_147_483_648;
 
+/// Those that need no list; the fifth is made with one (`first_edition`).
 #[test]
 fn make_takes_four_profiles() {
-    for profile in PROFILES {
+    for profile in [1, 2, 3, 4] {
         for (oldway, stamp) in [(0, 0), (0, 1), (0, u32::MAX), (1, 0), (1, 7)] {
-            let (state, answer) = gate::make(profile, oldway, stamp);
+            let (state, answer) = made(profile, oldway, stamp);
             assert_eq!(answer, Answer::Ready);
             let expected = State {
                 live: true,
@@ -23,12 +24,38 @@ fn make_takes_four_profiles() {
             assert_eq!(state, expected);
         }
     }
-    for profile in [0, 5, 6, 255, 256, u32::MAX] {
+    for profile in [0, 6, 7, 255, 256, u32::MAX] {
         for oldway in [0, 1, 2] {
             let none = State::default();
-            assert_refused(none, gate::make(profile, oldway, 7), 1);
+            assert_refused(none, made(profile, oldway, 7), 1);
             assert!(!none.live);
         }
+    }
+}
+
+#[test]
+fn each_number_has_its_name() {
+    for (number, name) in [
+        (calls::BAD_PROFILE, "BAD-PROFILE"),
+        (calls::CLOCK_BACK, "CLOCK-BACK"),
+        (calls::CLOCK_END, "CLOCK-END"),
+        (calls::BAD_SAMPLE, "BAD-SAMPLE"),
+        (calls::BAD_PRIORITY, "BAD-PRIORITY"),
+        (calls::BAD_ON_TIME, "BAD-ON-TIME"),
+        (calls::BAD_LIFETIME, "BAD-LIFETIME"),
+        (calls::QUEUE_FULL, "QUEUE-FULL"),
+        (calls::NO_STATE, "NO-STATE"),
+        (calls::BAD_KIND, "BAD-KIND"),
+        (calls::SPENT, "SPENT"),
+        (calls::NO_ROOM, "NO-ROOM"),
+        (calls::TORN_LOG, "TORN-LOG"),
+        (calls::BAD_FLOAT, "BAD-FLOAT"),
+        (calls::BAD_LIST, "BAD-LIST"),
+    ] {
+        assert_eq!(calls::refusal_name(number), Some(name));
+    }
+    for none in [0, 16, u32::MAX] {
+        assert_eq!(calls::refusal_name(none), None);
     }
 }
 
@@ -36,10 +63,10 @@ fn make_takes_four_profiles() {
 fn make_takes_a_yes_or_a_no() {
     for profile in PROFILES {
         for oldway in WAYS {
-            assert_eq!(gate::make(profile, oldway, 7).1, Answer::Ready);
+            assert_eq!(made(profile, oldway, 7).1, Answer::Ready);
         }
         for oldway in [2, 3, 256, 1 << 31, u32::MAX] {
-            assert_refused(State::default(), gate::make(profile, oldway, 7), 1);
+            assert_refused(State::default(), made(profile, oldway, 7), 1);
         }
     }
 }
@@ -102,7 +129,7 @@ fn number_5_priority() {
 
 #[test]
 fn number_6_on_time() {
-    for (profile, most) in [(1, 1_000), (2, 500), (3, 4_000), (4, 4_000)] {
+    for (profile, most) in ON_TIMES {
         let state = fresh(profile);
         for ontime in [1, most] {
             assert_eq!(gate::offer(state, 1, 0, ontime, 1, 0).1, Answer::Taken);

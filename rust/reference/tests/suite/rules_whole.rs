@@ -1,5 +1,6 @@
 //! The rules over whole ranges, and at the ends of the number types.
 
+use crate::help::ON_TIMES;
 use reference::book::floor;
 use reference::rng::Rng;
 use reference::rules;
@@ -19,7 +20,7 @@ fn wanted_level_over_every_load() {
         }
         assert_eq!(rules::wanted_level(profile, u32::MAX), Some(4));
     }
-    for profile in [0, 3, 4, u32::MAX] {
+    for profile in [0, 3, 4, 5, u32::MAX] {
         assert_eq!(rules::wanted_level(profile, 0), None);
     }
 }
@@ -52,10 +53,11 @@ fn reactive_waits_by_level() {
     }
     assert_eq!(rules::wait(0, 0, 600_000, 1, 0), None);
     assert_eq!(rules::wait(5, 0, 600_000, 1, 0), None);
+    assert_eq!(rules::wait(6, 0, 600_000, 1, 0), None);
 }
 
-/// W-202 and W-209: the wait runs from the end in profiles 1, 2 and 4, from the
-/// start in 3.
+/// W-202, W-209 and W-213: the wait runs from the end in profiles 1, 2, 4 and 5,
+/// from the start in 3.
 #[test]
 fn the_gate_is_closed_for_the_wait_from_its_start_or_end() {
     for profile in [1, 2, 3, 4] {
@@ -71,10 +73,14 @@ fn the_gate_is_closed_for_the_wait_from_its_start_or_end() {
             }
         }
     }
-    for profile in [0, 5, u32::MAX] {
+    for profile in [0, 6, u32::MAX] {
         assert_eq!(rules::wait_from(profile), None);
         assert_eq!(rules::closed_for(profile, 0, 600_000, 1, 0), None);
+        assert_eq!(rules::closed_with(profile, 1, 1), None);
     }
+    // Profile 5's wait comes from its list.
+    assert_eq!(rules::closed_for(5, 0, 600_000, 1, 0), None);
+    assert_eq!(rules::closed_with(5, 1_000, 40_000), Some(41_000));
     assert_eq!(rules::closed_for(1, 5, 600_000, 1, 0), None);
 }
 
@@ -151,14 +157,14 @@ fn rules_at_the_ends_of_their_types() {
 
 #[test]
 fn on_times_allowed() {
-    for (profile, most) in [(1, 1_000), (2, 500), (3, 4_000), (4, 4_000)] {
+    for (profile, most) in ON_TIMES {
         for ontime in 0..=5_000 {
             let allowed = (1..=most).contains(&ontime);
             assert_eq!(rules::on_time_allowed(profile, ontime), allowed);
         }
         assert!(!rules::on_time_allowed(profile, u32::MAX));
     }
-    for profile in [0, 5, u32::MAX] {
+    for profile in [0, 6, u32::MAX] {
         assert!(!rules::on_time_allowed(profile, 1));
     }
 }

@@ -2,7 +2,7 @@
 
 use std::collections::BTreeMap;
 
-use crate::help::{words_of, Answer, Call};
+use crate::help::{made, words_of, Answer, Call};
 use reference::book::Book;
 use reference::gate;
 use reference::rng::Rng;
@@ -157,7 +157,7 @@ fn name(answer: &Answer) -> String {
 /// answer came, and the book.
 fn run(profile: u32, oldway: u32, seed: u64, calls: u32) -> (BTreeMap<String, u32>, Book) {
     let first = seed as u32 ^ 0xF000_0000;
-    let (mut state, _) = gate::make(profile, oldway, first);
+    let (mut state, _) = made(profile, oldway, first);
     let mut book = Book::new(profile, first);
     let mut caller = Caller::new(profile, seed);
     let mut answers = BTreeMap::new();
@@ -243,6 +243,16 @@ fn the_claim_holds_in_profile_4() {
     assert!(book.closest().fullest_stretch > 20_000);
 }
 
+#[test]
+fn the_claim_holds_in_profile_5() {
+    claim_holds(5);
+    let (_, book) = run(5, 0, 3, 50_000);
+    // The shortest wait that a list may have, after the shortest on-time.
+    assert_eq!(book.closest().shortest_gap, Some(40_001));
+    // One packet of 1,000 µs alone.
+    assert_eq!(book.closest().smallest_slack, Some(300_000));
+}
+
 /// Takes one call of a run; the book holds its answer to demand 3.
 pub fn told((state, book): &mut (State, Book), call: Call) -> Answer {
     let (next, answer) = gate::call(*state, &call);
@@ -251,13 +261,12 @@ pub fn told((state, book): &mut (State, Book), call: Call) -> Answer {
     answer
 }
 
-/// A run that reaches the floor: four loud samples ask for the longest wait of
-/// profiles 1 and 2, and the last of them for profile 4's; a fresh duty for
-/// profile 3's. This on-time goes first.
+/// A run that reaches the floor: ten loud samples ask for the longest wait of
+/// profiles 1, 2, 4 and 5; a fresh duty for profile 3's. This on-time goes first.
 fn reaches_the_floor(profile: u32, ontime: u32, floor: u32) {
-    let mut run = (gate::make(profile, 0, 0).0, Book::new(profile, 0));
+    let mut run = (made(profile, 0, 0).0, Book::new(profile, 0));
     if profile != 3 {
-        for _ in 0..4 {
+        for _ in 0..10 {
             let (busy, stamp) = (1_000, 0);
             told(
                 &mut run,
@@ -317,8 +326,13 @@ fn a_run_of_profile_4_reaches_the_floor() {
 }
 
 #[test]
+fn a_run_of_profile_5_reaches_the_floor() {
+    reaches_the_floor(5, 1_000, 1_001_000);
+}
+
+#[test]
 fn the_ceiling_is_kept_at_the_greatest_duty_and_load() {
-    let mut run = (gate::make(3, 0, 0).0, Book::new(3, 0));
+    let mut run = (made(3, 0, 0).0, Book::new(3, 0));
     run.0.duty = 30_000_000;
     let mut stamp = 0u32;
     for turn in 0..20_000 {

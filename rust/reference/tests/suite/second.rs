@@ -1,7 +1,7 @@
 //! W-207: thirty milliseconds in any second.
 
 use crate::help::{
-    admission, assert_refused, fresh, late, offered, sampled, words, Answer, Call, PROFILES,
+    admission, assert_refused, fresh, late, made, offered, sampled, words, Answer, Call, PROFILES,
 };
 use crate::runs::told;
 use reference::book::Book;
@@ -430,8 +430,8 @@ fn runs_at_the_edge_of_the_second() {
 /// A fresh state holds no admission, and neither does the not live one.
 #[test]
 fn a_fresh_ledger_is_empty() {
-    for profile in 0..=5 {
-        let (state, _) = gate::make(profile, 0, 7);
+    for profile in 0..=6 {
+        let (state, _) = made(profile, 0, 7);
         assert_eq!(state.ledger, reference::state::Ledger::default());
     }
     let state = offered(fresh(1), 1, 0, 9, 0);

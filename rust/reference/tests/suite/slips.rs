@@ -1,6 +1,6 @@
 //! "Slips seen in earlier firmware", every line.
 
-use crate::help::{fresh, sampled, Answer};
+use crate::help::{fresh, made, sampled, Answer};
 use reference::{ccalls, gate, rules};
 
 #[test]
@@ -55,7 +55,7 @@ fn duty_is_not_always_kept() {
 fn a_wrapped_stamp_steps_forward() {
     assert_eq!(rules::clock_step(4_294_967_295, 0), 1);
     assert_eq!(rules::clock_step(4_294_967_000, 704), 1_000);
-    let (state, _) = gate::make(1, 0, 4_294_967_000);
+    let (state, _) = made(1, 0, 4_294_967_000);
     let (next, answer) = gate::poll(state, 704);
     assert_eq!(answer, Answer::Idle);
     assert_eq!((next.time, next.stamp), (1_000, 704));

@@ -2,12 +2,15 @@
 
 use std::collections::BTreeMap;
 
-use crate::help::{admission, assert_refused, fresh, late, old, Answer, ACCEPTED_MOST, PROFILES};
+use crate::help::{
+    admission, assert_refused, four_levels, fresh, late, old, Answer, ACCEPTED_MOST, ON_TIMES,
+    PROFILES,
+};
 use reference::gate;
 use reference::ledgers::{self, row};
 use reference::miscounts::{one_off, wrapping};
 use reference::rng::Rng;
-use reference::state::{broken_rules, rule_names, sound, Admission, Ledger, Packet, State};
+use reference::state::{broken_rules, rule_names, sound, Admission, Ledger, Loads, Packet, State};
 
 /// The lengths tried; each queue is tried at 0 to 5.
 const LENGTHS: [[usize; 4]; 6] = [
@@ -78,8 +81,8 @@ fn each_waiting_packet(rule: &str, changes: &[Change]) {
             }
         }
     }
-    // Every slot of every queue, in each of the four profiles.
-    assert_eq!(tried, 4 * 4 * (1 + 2 + 3 + 4 + 5) * changes.len());
+    // Every slot of every queue, in each of the five profiles.
+    assert_eq!(tried, 5 * 4 * (1 + 2 + 3 + 4 + 5) * changes.len());
 }
 
 #[test]
@@ -96,7 +99,7 @@ fn fresh_and_late_states_are_sound() {
 fn the_not_live_state_is_not() {
     let zero = State::default();
     let broken = broken_rules(&zero);
-    assert_eq!(broken, ["live", "profile 1 to 4", "duty within limits"]);
+    assert_eq!(broken, ["live", "profile 1 to 5", "duty within limits"]);
     all_calls_refuse(&zero);
 }
 
@@ -115,13 +118,13 @@ fn live() {
 
 #[test]
 fn profile() {
-    for profile in [0, 5, 6, 257, u32::MAX] {
+    for profile in [0, 6, 7, 257, u32::MAX] {
         breaks_only(
             &State {
                 profile,
                 ..fresh(1)
             },
-            "profile 1 to 4",
+            "profile 1 to 5",
         );
         // With packets waiting it allows no on-time either.
         all_calls_refuse(&State {
@@ -136,7 +139,11 @@ fn level() {
     for start in starts() {
         is_sound(&State { level: 4, ..start });
         for level in [5, 256, u32::MAX] {
-            breaks_only(&State { level, ..start }, "level at most 4");
+            let rule = match start.profile {
+                5 => "level at most the list's in profile 5", // which has four
+                _ => "level at most 4",
+            };
+            breaks_only(&State { level, ..start }, rule);
         }
     }
 }
@@ -247,7 +254,7 @@ fn last_admission() {
         for at in [start.time + 1, u64::MAX] {
             breaks_only(&admitted(at, 1), "admission not after running time");
         }
-        let most = [1_000, 500, 4_000, 4_000][start.profile as usize - 1];
+        let (_, most) = ON_TIMES[start.profile as usize - 1];
         is_sound(&admitted(start.time, most));
         for ontime in [0, most + 1, u32::MAX] {
             // So old that it stands in no ledger.
@@ -481,7 +488,7 @@ fn old_way() {
 /// States of a profile whose ledgers are the row of each kind that it allows.
 fn with_ledgers(profile: u32) -> Vec<State> {
     let state = late(profile, [1, 0, 2, 0]);
-    let most = [1_000, 500, 4_000, 4_000][profile as usize - 1];
+    let (_, most) = ON_TIMES[profile as usize - 1];
     let mut rows = vec![
         vec![],
         row(1, 0, 1, state.time),
@@ -644,8 +651,17 @@ fn several_rules_at_once_are_all_named() {
     let [far, near] = [u64::MAX, 1].map(|at| admission(at, 0));
     state.ledger = Ledger::of(&[far, near]);
     state.ledger.slots[9] = far;
+    // A good list, and loads: profile 5's, not this one's.
+    state.levels = four_levels();
+    state.loads = Loads::of(&[u32::MAX]);
     let broken = broken_rules(&state);
     let unbroken = [
+        "list good in profile 5",
+        "list room past the length zero",
+        "level at most the list's in profile 5",
+        "last loads at most 50",
+        "last loads at most 1,000,000",
+        "last loads' room past the length zero",
         "sample kept only in profile 3",
         "admission not after running time",
         "admission on-time allowed",
@@ -657,4 +673,25 @@ fn several_rules_at_once_are_all_named() {
     let mut expected = rule_names();
     expected.retain(|name| !unbroken.contains(name));
     assert_eq!(broken, expected);
+}
+
+#[test]
+fn several_rules_of_profile_5_at_once_are_all_named() {
+    let mut state = fresh(5);
+    state.level = 9;
+    state.levels.len = 2; // and more is listed
+    state.levels.wait = 0;
+    state.loads = Loads::of(&[u32::MAX]);
+    state.loads.slots[49] = 1;
+    state.latest = 1;
+    let expected = [
+        "latest load zero outside profile 4",
+        "list good in profile 5",
+        "list room past the length zero",
+        "level at most the list's in profile 5",
+        "last loads at most 1,000,000",
+        "last loads' room past the length zero",
+    ];
+    assert_eq!(broken_rules(&state), expected);
+    all_calls_refuse(&state);
 }

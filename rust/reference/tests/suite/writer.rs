@@ -1,10 +1,12 @@
 //! W-206: calls written to a log, there and back.
 
-use crate::help::{fresh, words, words_of, Answer, Call, PROFILES};
+use crate::help::{four_levels, fresh, made, words, words_of, Answer, Call, PROFILES};
 use crate::runs::Caller;
 use reference::gate;
+use reference::lists;
 use reference::log::{line, read, replay, LogCall, Record};
 use reference::rng::Rng;
+use reference::state::Levels;
 use reference::writer::{record_of, write};
 
 /// What a buffer holds before a call is written.
@@ -14,6 +16,7 @@ fn make(profile: u32, oldway: u32, stamp: u32) -> LogCall {
     LogCall::Make {
         profile,
         oldway,
+        levels: Levels::default(),
         stamp,
     }
 }
@@ -154,6 +157,27 @@ fn what_is_too_wide_is_refused_with_its_own_number() {
     }
 }
 
+/// W-213: a log can't carry a list, so profile 5 has no record, whatever its
+/// list; another profile's make is written without it.
+#[test]
+fn profile_5_has_no_record_and_no_make_writes_its_list() {
+    for levels in [four_levels(), Levels::default()] {
+        let with = |profile| LogCall::Make {
+            profile,
+            oldway: 1,
+            levels,
+            stamp: 7,
+        };
+        refused(&with(5), 1);
+        for profile in [0, 1, 2, 3, 4, 6, 77, 255] {
+            let bare = make(profile, 1, 7);
+            assert_eq!(written(&with(profile)), written(&bare));
+            assert_eq!(read_back(&with(profile)), bare);
+        }
+        refused(&with(256), 1);
+    }
+}
+
 #[test]
 fn a_bad_sample_by_words_is_refused_with_4() {
     let good = words(400);
@@ -207,8 +231,16 @@ fn any_call(rng: &mut Rng) -> LogCall {
     let stamp = rng.next_u32();
     match rng.below(5) {
         0 => {
-            let profile = rng.pick(&[0, 1, 2, 3, 4, 254, 255, 256, u32::MAX]);
-            make(profile, rng.pick(&[0, 0, 1, 1, 2, u32::MAX]), stamp)
+            let profile = rng.pick(&[0, 1, 2, 3, 4, 5, 6, 254, 255, 256, u32::MAX]);
+            let oldway = rng.pick(&[0, 0, 1, 1, 2, u32::MAX]);
+            let list = lists::good(rng);
+            let levels = rng.pick(&[Levels::default(), list]);
+            LogCall::Make {
+                profile,
+                oldway,
+                levels,
+                stamp,
+            }
         }
         1 => {
             let any = 1 + rng.below(12_500) as u32;
@@ -247,7 +279,7 @@ fn fits(call: &LogCall) -> bool {
     match call {
         LogCall::Make {
             profile, oldway, ..
-        } => *profile < 256 && *oldway < 2,
+        } => *profile < 256 && *profile != 5 && *oldway < 2,
         LogCall::On(Call::SampleWords { probes, words, .. }) => {
             let enough = words.len() == probes.div_ceil(64) as usize;
             let rest = probes % 64;
@@ -263,7 +295,7 @@ fn fits(call: &LogCall) -> bool {
 }
 
 /// Reading what was written gives back the call, a sample by words as one by
-/// its count.
+/// its count, and a make with an empty list.
 #[test]
 fn calls_go_there_and_back() {
     let mut rng = Rng::new(206);
@@ -284,6 +316,12 @@ fn calls_go_there_and_back() {
                 let busy = words.iter().map(|word| word.count_ones()).sum();
                 by_count(busy, *probes, *stamp)
             }
+            LogCall::Make {
+                profile,
+                oldway,
+                stamp,
+                ..
+            } => make(*profile, *oldway, *stamp),
             other => other.clone(),
         };
         assert_eq!(read_back(&call), same, "{call:?}");
@@ -292,11 +330,12 @@ fn calls_go_there_and_back() {
 }
 
 /// Whether a record of kind 0 to 3 has zeros in what its kind ignores, 0 or 1
-/// as a make's lifetime, and not 1,000 as a sample's.
+/// as a make's lifetime and no 5 as its profile, and not 1,000 as a sample's
+/// lifetime.
 fn goes_back(bytes: &[u8; 16]) -> bool {
     let zero = |from: usize, to: usize| bytes[from..to].iter().all(|byte| *byte == 0);
     match bytes[0] {
-        0 => zero(2, 4) && bytes[4] < 2 && zero(5, 8) && zero(8, 12),
+        0 => bytes[1] != 5 && zero(2, 4) && bytes[4] < 2 && zero(5, 8) && zero(8, 12),
         1 => zero(1, 4) && bytes[4..8] != 1_000u32.to_le_bytes(),
         2 => true,
         _ => zero(1, 12),
@@ -320,6 +359,9 @@ fn records_go_there_and_back() {
         }
         if rng.one_in(20) {
             bytes[4..8].copy_from_slice(&1_000u32.to_le_bytes());
+        }
+        if rng.one_in(20) {
+            bytes[1] = rng.pick(&[4, 5, 6]);
         }
         let back = record_of(&read(&Record::from_bytes(&bytes)).unwrap());
         let back = back.map(|record| record.to_bytes());
@@ -445,11 +487,11 @@ fn samples_of_one_record_are_alike() {
 /// A run that records its own calls; its log, played, gives its own answers.
 #[test]
 fn a_recorded_run_plays_back() {
-    for profile in PROFILES {
+    for profile in [1, 2, 3, 4] {
         for oldway in [0, 1] {
             let seed = 270 + u64::from(profile);
             let mut caller = Caller::new(profile, seed);
-            let (mut state, answer) = gate::make(profile, oldway, 99);
+            let (mut state, answer) = made(profile, oldway, 99);
             let mut log = written(&make(profile, oldway, 99)).to_vec();
             let mut lines = line(&answer) + "\n";
             for _ in 0..5_000 {
