@@ -24,8 +24,8 @@
  * nothing of a call that breaks it.
  *
  * What it takes, as found by trying many states (docs/INTEGRATING.md has the figures; they are no bounds): up to some
- * 4,000 instructions a call, 13,200 for a burst of 20 offers; up to 7.3 kB of stack below the caller, who holds a state
- * of 1,104 bytes and a turn of 1,144. The archive has 34 kB and no variables, and needs memcpy and memset of libc.
+ * 4,500 instructions a call, 18,500 for a burst of 20 offers; up to 7.1 kB of stack below the caller, who holds a state
+ * of 1,072 bytes and a turn of 1,112. The archive has 45 kB and no variables, and needs memcpy, memmove and memset.
  *
  * Units
  *   time      microseconds (us)
@@ -33,7 +33,7 @@
  *   probes    looks at the channel in one sample              1 to 12,500
  *   load      channel busy ratio, parts per 1,000,000         0 to 1,000,000
  *   duty      share of time on air, parts per 1,000,000,000   600,000 to 30,000,000
- *   level     0 Relaxed, 1 Active 1, 2 Active 2, 3 Active 3, 4 Restrictive
+ *   level     0 Relaxed, 1 Active 1, 2 Active 2, 3 Active 3, 4 Restrictive; in profile 5 one of its list, 0 to 8
  *   on-time   time on air of one packet, microseconds         1 to the longest that the profile allows
  *   lifetime  how long a packet may wait, microseconds        1 to 60,000,000
  *   priority  0 (highest) to 3
@@ -44,10 +44,12 @@
  *   2   reactive, ETSI TS 102 687 V1.2.1, Table A.2      1 to   500
  *   3   adaptive, ETSI TS 102 687 V1.2.1, clause 5.4     1 to 4,000
  *   4   harmonised, ETSI EN 302 571, clause 4.2.10       1 to 4,000
+ *   5   by a list of levels that the host gives,         1 to 1,000
+ *       ETSI TS 102 687 V1.1.1, clause 6.4
  *
  * What they have in common: after an admission a gate is closed for at least 25,000 us and at most 1,000,000 us and the
- * longest on-time, and in any 1,000,000 us it admits at most 30,000 us of on-time. Profiles 1 to 3 admit on-time for at
- * most 3 % of any stretch of time and 4,000 us more; of profile 4 that is not claimed.
+ * longest on-time, and in any 1,000,000 us it admits at most 30,000 us of on-time. All but profile 4 admit on-time for
+ * at most 3 % of any stretch of time and 4,000 us more; of profile 4 that is not claimed.
  */
 #ifndef PRESSCURLEW_H
 #define PRESSCURLEW_H
@@ -96,7 +98,7 @@ extern "C" {
  */
 #define PRESSCURLEW_VERSION "0.9.0"
 #define PRESSCURLEW_VERSION_NUMBER 9000u /* a million for each major and a thousand for each minor number */
-#define PRESSCURLEW_LAYOUT 1253097843u
+#define PRESSCURLEW_LAYOUT 1764727010u
 
 /* The PRESSCURLEW_VERSION_NUMBER and the PRESSCURLEW_LAYOUT of the archive. */
 uint32_t presscurlew_version(void);
@@ -109,7 +111,7 @@ uint32_t presscurlew_layout(void);
  * write the log refuse stands with them.
  */
 enum presscurlew_refusal {
-    PRESSCURLEW_BAD_PROFILE = 1,  /* make: the profile is not 1 to 4, or when_full is above 1 */
+    PRESSCURLEW_BAD_PROFILE = 1,  /* make: the profile is not 1 to 5, or when_full is above 1 */
     PRESSCURLEW_CLOCK_BACK = 2,   /* from the last stamp to this one, modulo 2^32, are 2,147,483,648 us or more */
     PRESSCURLEW_CLOCK_END = 3,    /* the running time would pass 10^15 us, some 31 years */
     PRESSCURLEW_BAD_SAMPLE = 4,   /* not 1 to 12,500 probes, not just enough words, a stray bit, or busy above probes */
@@ -121,7 +123,8 @@ enum presscurlew_refusal {
     PRESSCURLEW_BAD_KIND = 10,    /* burst, as the answer to one record: its kind is not 2 */
     PRESSCURLEW_SPENT = 11,       /* the gate has accepted 10^15 offers */
     PRESSCURLEW_NO_ROOM = 12,     /* burst: fewer answer bytes than records; log: no 16 bytes at that place */
-    PRESSCURLEW_TORN_LOG = 13     /* burst: the bytes of the records are not a multiple of 16 */
+    PRESSCURLEW_TORN_LOG = 13,    /* burst: the bytes of the records are not a multiple of 16 */
+    PRESSCURLEW_BAD_LIST = 15     /* make, profile 5 alone: the list of levels breaks a rule; tested after 1 */
 };
 
 /* The name of such a number, as "QUEUE-FULL"; "ACCEPTED" for 0, and "unknown" for what is none of them. */
@@ -141,6 +144,7 @@ static inline const char *presscurlew_refusal_name(uint64_t number) {
     case PRESSCURLEW_SPENT: return "SPENT";
     case PRESSCURLEW_NO_ROOM: return "NO-ROOM";
     case PRESSCURLEW_TORN_LOG: return "TORN-LOG";
+    case PRESSCURLEW_BAD_LIST: return "BAD-LIST";
     default: return "unknown";
     }
 }
@@ -152,7 +156,7 @@ static inline const char *presscurlew_refusal_name(uint64_t number) {
  * The host keeps a presscurlew_state for each channel. Each call takes the state by value and hands back
  * the next one, with an answer:
  *
- *   presscurlew_turn turn = presscurlew_make(1, PRESSCURLEW_DROP_OLDEST, radio_clock());
+ *   presscurlew_turn turn = presscurlew_make(1, PRESSCURLEW_DROP_OLDEST, presscurlew_no_list(), radio_clock());
  *   presscurlew_state state = turn.state;
  *   ...
  *   turn = presscurlew_offer(state, id, priority, ontime, lifetime, radio_clock());
@@ -214,15 +218,53 @@ typedef struct presscurlew_clock {
  * gate are less than 25,000 us apart. Every call that is not refused, a sample too, drops those that have reached
  * 1,000,000 us of age, and a poll that answers SENT notes its packet; a refused call drops nothing.
  *
- * It is sound if its admissions are in order of time with gaps of at least 25,000 us, each at most the running time and
- * less than 1,000,000 us before it, their on-times are allowed and sum to at most 30,000, and the newest is the last
- * admission; where nothing was admitted, or the last admission is 1,000,000 us old or older, it is empty.
+ * Each is one word: how long before the last admission, that of last.at, it was made, times 4,096, and its on-time. The
+ * state is copied at every call. So the ledger has 168 bytes of it; with a time and an on-time each it would be 488.
+ *
+ *   made at the running time   last.at - word / 4096
+ *   on-time                    word % 4096
+ *
+ * The newest is the last admission, so that its word is its on-time.
+ *
+ * It is sound if no word says more than last.at before it, its admissions are in order of time with gaps of at least
+ * 25,000 us, each at most the running time and less than 1,000,000 us before it, their on-times are allowed and sum to
+ * at most 30,000, and the newest is the last admission; where nothing was admitted, or the last admission is
+ * 1,000,000 us old or older, it is empty.
  */
 typedef struct presscurlew_ledger {
-    uint64_t len;         /* how many it holds, 0 to 40 */
-    uint64_t ats[40];     /* the running times at which the first len were made, the oldest first; the others are 0 */
-    uint32_t ontimes[40]; /* the on-times of their packets, in the same places; the others are 0 */
+    uint64_t len;       /* how many it holds, 0 to 40 */
+    uint32_t slots[40]; /* the first len are their words, the oldest first; the others are 0 */
 } presscurlew_ledger;
+
+/*
+ * Profile 5's list of levels, which make is given; in the state of any other profile all fields are 0. Level 0 has
+ * threshold 0 and the wait `wait`; level k, for k from 1 to len, has threshold above[k - 1] and wait waits[k - 1].
+ *
+ * A list is good if all of these hold, whether waits rise or fall from level to level; make refuses any other with
+ * BAD_LIST:
+ *   - len is 1 to 8;
+ *   - the wait of each level, that of level 0 too, is 40,000 to 1,000,000;
+ *   - the thresholds are at most 1,000,000 and rise strictly, from level 0's: the first is 1 or more.
+ * What a list that is handed to make has past its length is not looked at; in a state it is 0.
+ */
+typedef struct presscurlew_levels {
+    uint64_t len;      /* how many levels there are above level 0: 1 to 8 */
+    uint32_t wait;     /* of level 0, in us */
+    uint32_t above[8]; /* the thresholds of levels 1 to len, as loads */
+    uint32_t waits[8]; /* their waits, in us */
+} presscurlew_levels;
+
+/* The loads of the last samples that were taken, in profile 5; in the state of any other profile all fields are 0. */
+typedef struct presscurlew_loads {
+    uint64_t len;       /* how many it holds, 0 to 50 */
+    uint32_t slots[50]; /* the first len, the oldest first, each at most 1,000,000; the others are 0 */
+} presscurlew_loads;
+
+/* What calls change in rows. */
+typedef struct presscurlew_rows {
+    presscurlew_ledger ledger;
+    presscurlew_loads loads;
+} presscurlew_rows;
 
 /* The last admission, however long ago. Before the first one all fields are 0. */
 typedef struct presscurlew_last {
@@ -248,7 +290,7 @@ typedef struct presscurlew_counts {
 
 /* What samples steer. The profile, which says how, stands beside it in the state. */
 typedef struct presscurlew_tuning {
-    uint32_t level;    /* 0 to 4; profiles 1 and 2 move it */
+    uint32_t level;    /* 0 to 4, and profiles 1 and 2 move it; in profile 5, which moves it too, 0 to the list's len */
     uint32_t duty;     /* 600,000 to 30,000,000; profile 3 moves it */
     uint32_t smoothed; /* the smoothed load, at most 1,000,000; profile 3 moves it */
     uint32_t kept;     /* profile 3: the load of the first sample of a pair, at most 1,000,000; 0 if none is kept */
@@ -262,15 +304,16 @@ enum presscurlew_when_full {
     PRESSCURLEW_REFUSE_NEW = 1   /* QUEUE_FULL: what was taken once is sent or expires, and is never displaced */
 };
 
-/* The state of one gate: 1,104 bytes. */
+/* The state of one gate: 1,072 bytes. */
 typedef struct presscurlew_state {
     presscurlew_queue queues[4]; /* by priority */
-    presscurlew_ledger ledger;
+    presscurlew_levels levels;   /* as it was made; no call changes it */
+    presscurlew_rows rows;
     presscurlew_clock clock;
     presscurlew_last last;
     presscurlew_counts counts;
     presscurlew_tuning tuning;
-    uint32_t profile; /* 1 to 4, as it was made; no call changes it */
+    uint32_t profile; /* 1 to 5, as it was made; no call changes it */
     uint32_t oldway;  /* 0 or 1, an enum presscurlew_when_full, as it was made; no call changes it */
     uint32_t live;    /* 1; 0 in the all-zero state that a refused make hands back */
 } presscurlew_state;
@@ -288,7 +331,7 @@ enum presscurlew_kind {
 /* The answer to a call. What its kind does not use is 0. */
 typedef struct presscurlew_reply {
     presscurlew_packet packet; /* SENT: the whole packet */
-    uint64_t number;           /* CLOSED: the us left, 1 to 1,004,000; REFUSED: the refusal, 1 to 9 or 11 */
+    uint64_t number;           /* CLOSED: the us left, 1 to 1,004,000; REFUSED: the refusal, 1 to 9, 11 or 15 */
     uint32_t kind;             /* an enum presscurlew_kind */
 } presscurlew_reply;
 
@@ -300,12 +343,25 @@ typedef struct presscurlew_turn {
 
 /*
  * A fresh state: running time 0, level 0, duty 600,000, smoothed and latest load 0, nothing kept, nothing
- * admitted, nothing waiting, nothing counted. `when_full` is an enum presscurlew_when_full, which the state
+ * admitted, nothing waiting, nothing counted, no loads. `when_full` is an enum presscurlew_when_full, which the state
  * keeps, and `stamp` is the radio's clock now. READY.
  *
- * Refusals: BAD_PROFILE, with the all-zero state, which every other call refuses with NO_STATE.
+ * `list` is profile 5's, which the state keeps. No other profile looks at it: presscurlew_no_list() says so.
+ *
+ *   presscurlew_levels list = {2, 60000, {300000, 600000}, {200000, 1000000}};
+ *   presscurlew_turn turn = presscurlew_make(5, PRESSCURLEW_DROP_OLDEST, list, radio_clock());
+ *
+ * Refusals: BAD_PROFILE, then in profile 5 BAD_LIST; either with the all-zero state, which every other call refuses
+ * with NO_STATE.
  */
-presscurlew_turn presscurlew_make(uint32_t profile, uint32_t when_full, uint32_t stamp);
+presscurlew_turn presscurlew_make(uint32_t profile, uint32_t when_full, presscurlew_levels list, uint32_t stamp);
+
+/* No list of levels, for profiles 1 to 4; profile 5 refuses it with BAD_LIST. */
+static inline presscurlew_levels presscurlew_no_list(void) {
+    presscurlew_levels none = {0, 0, {0, 0, 0, 0, 0, 0, 0, 0}, {0, 0, 0, 0, 0, 0, 0, 0}};
+
+    return none;
+}
 
 /*
  * A sample has so many probes at most, and so many words; fewer probes have just as many words as they need. That is
@@ -324,8 +380,18 @@ enum { PRESSCURLEW_MOST_PROBES = 12500, PRESSCURLEW_MOST_WORDS = 196 };
  * With 1,000 probes that is 1,000 for each busy one; with 12,500, a probe each 8 us for 100 ms, 80. The number of
  * probes may differ from sample to sample, and nothing but the load is made of it. Profiles 1 and 2 move the level by
  * at most one towards the one that the load wants. Profile 3 keeps each odd sample, and with each even one updates
- * smoothed load and duty. Profile 4 notes the load in place of the one before. A sample expires nothing and counts
- * nothing. It drops aged admissions from the ledger, as every call does that is not refused.
+ * smoothed load and duty. Profile 4 notes the load in place of the one before. Profile 5 notes the load behind those
+ * before it, of which the last 50 are kept, and then moves the level:
+ *
+ *   low    the least of the last 10 loads, 0 while there are fewer than ten
+ *   high   the greatest of the loads that are kept
+ *   up     the highest level whose threshold low reaches (is at least), and down the highest that high reaches
+ *
+ * The level goes to up if it is below up, to down if it is above down, and else stays; at once, by as many levels as
+ * that is. So ten loud samples in a row raise it, and fifty quiet ones lower it.
+ *
+ * A sample expires nothing and counts nothing. It drops aged admissions from the ledger, as every call does that is not
+ * refused.
  *
  *   uint64_t words[PRESSCURLEW_WORDS(12500)] = {0};
  *   for (unsigned k = 0; k < 12500; k++)
@@ -445,15 +511,15 @@ static inline void presscurlew_put_offer(uint8_t *record, uint32_t id, uint32_t 
  * own expiry came between.
  *
  * presscurlew_wait, below, says what the wait is; it is taken afresh at each poll, with the level, duty or latest
- * load of that moment. It starts
- *   profiles 1, 2, 4   when the transmitter stops: the on-time of the packet admitted last after its admission
- *   profile 3          at the admission
+ * load of that moment; in profile 5 it is the wait that the list has for the level. It starts
+ *   profiles 1, 2, 4, 5   when the transmitter stops: the on-time of the packet admitted last after its admission
+ *   profile 3             at the admission
  * so a poll that finds a packet sends it if the last admission is this long ago, or longer (by then the ledger is
  * empty), and CLOSED never has more:
- *   profile 1          1,001,000 us
- *   profile 2          1,000,500 us
- *   profile 3          1,000,000 us
- *   profile 4          1,004,000 us
+ *   profiles 1 and 5      1,001,000 us
+ *   profile 2             1,000,500 us
+ *   profile 3             1,000,000 us
+ *   profile 4             1,004,000 us
  *
  * So a gate admits at most 30,000 us of on-time in any 1,000,000 us, wherever they begin.
  *
@@ -494,6 +560,10 @@ presscurlew_turn presscurlew_poll(presscurlew_state state, uint32_t stamp);
  * presscurlew_put_offer puts them (a record of another kind gets BAD_KIND in a burst, but is a call in a log), and one
  * that is not refused as a whole.
  *
+ * A record has no room for a list of levels, so a gate of profile 5 has no log: presscurlew_write_make refuses its
+ * make, and a record that says 5 is refused with BAD_PROFILE where it is played. Of any other profile the list is left
+ * out, and the make is played without one, which is answered alike.
+ *
  * A log starts with a make, and has all calls on that one state in their order. A sample by words is in it by its
  * busy count and its probe count, which are all that the gate looks at: played, it is answered alike, and so is all
  * that comes after it. So the host may take the busy count from the record, and make the sample by it; the words are
@@ -502,21 +572,22 @@ presscurlew_turn presscurlew_poll(presscurlew_state state, uint32_t stamp);
  * A refusal writes nothing. It comes where a number does not fit its bytes, whatever the gate would make of it:
  * profile 77, priority 200, 5,000 busy of 1,000 probes or any of 20,000 are written, and played they are refused as
  * they were. The first of these that holds is the answer:
- *   PRESSCURLEW_BAD_PROFILE    make: the profile is above 255, or when_full is above 1
+ *   PRESSCURLEW_BAD_PROFILE    make: the profile is 5 or above 255, or when_full is above 1
  *   PRESSCURLEW_BAD_SAMPLE     sample by words: one that presscurlew_sample_words refuses; by count: 0 probes, as
  *                              the 0 of a record means 1,000
  *   PRESSCURLEW_BAD_PRIORITY   offer: the priority is above 255
  *   PRESSCURLEW_BAD_ON_TIME    offer: the on-time is above 65,535
  *   PRESSCURLEW_NO_ROOM        any: there are no 16 bytes at `at`, however large it is
- * All but the last are calls that the gate refuses too, in any state, so that a log without them still leads from
- * state to state as the host went. A host that wants a record for each call writes, in place of such a one, one that
- * the gate refuses with the same number: profile 255, 4,294,967,295 busy of 1,000 probes, or presscurlew_put_offer.
+ * All but the last and the make of profile 5 are calls that the gate refuses too, in any state, so that a log without
+ * them still leads from state to state as the host went. A host that wants a record for each call writes, in place of
+ * such a one, one that the gate refuses with the same number: profile 255, 4,294,967,295 busy of 1,000 probes, or
+ * presscurlew_put_offer.
  *
  * What the caller answers for: `log` points to `bytes` bytes, of which none is a byte of the words. With 0 bytes it
  * may be NULL.
  */
 
-/* The record of presscurlew_make. Refusals: BAD_PROFILE, NO_ROOM. */
+/* The record of presscurlew_make, of profile 5 none. Refusals: BAD_PROFILE, NO_ROOM. */
 uint32_t presscurlew_write_make(uint32_t profile, uint32_t when_full, uint32_t stamp, uint8_t *log, size_t bytes,
                                 size_t at);
 
@@ -634,6 +705,8 @@ presscurlew_duty_answer presscurlew_duty_update(uint32_t duty, uint32_t smoothed
  *
  * Level, duty and load change with each sample, so take the wait afresh each time that it is needed.
  *
+ * Profile 5 has its waits in its list, and the rules on plain numbers know none: they refuse it with 1.
+ *
  * Refusals: 1 if profile is not 1 to 4; 9 if level is above 4, or duty is not 600,000 to 30,000,000; 4 if load is above
  * 1,000,000; 6 if the profile does not allow the on-time.
  */
@@ -699,10 +772,20 @@ PRESSCURLEW_FIELD(packet, arrival, 16);
 PRESSCURLEW_SIZE(queue, 128);
 PRESSCURLEW_FIELD(queue, len, 0);
 PRESSCURLEW_FIELD(queue, slots, 8);
-PRESSCURLEW_SIZE(ledger, 488);
+PRESSCURLEW_SIZE(ledger, 168);
 PRESSCURLEW_FIELD(ledger, len, 0);
-PRESSCURLEW_FIELD(ledger, ats, 8);
-PRESSCURLEW_FIELD(ledger, ontimes, 328);
+PRESSCURLEW_FIELD(ledger, slots, 8);
+PRESSCURLEW_SIZE(levels, 80);
+PRESSCURLEW_FIELD(levels, len, 0);
+PRESSCURLEW_FIELD(levels, wait, 8);
+PRESSCURLEW_FIELD(levels, above, 12);
+PRESSCURLEW_FIELD(levels, waits, 44);
+PRESSCURLEW_SIZE(loads, 208);
+PRESSCURLEW_FIELD(loads, len, 0);
+PRESSCURLEW_FIELD(loads, slots, 8);
+PRESSCURLEW_SIZE(rows, 376);
+PRESSCURLEW_FIELD(rows, ledger, 0);
+PRESSCURLEW_FIELD(rows, loads, 168);
 PRESSCURLEW_SIZE(clock, 16);
 PRESSCURLEW_FIELD(clock, time, 0);
 PRESSCURLEW_FIELD(clock, stamp, 8);
@@ -722,26 +805,27 @@ PRESSCURLEW_FIELD(tuning, smoothed, 8);
 PRESSCURLEW_FIELD(tuning, kept, 12);
 PRESSCURLEW_FIELD(tuning, pairing, 16);
 PRESSCURLEW_FIELD(tuning, latest, 20);
-PRESSCURLEW_SIZE(state, 1104);
+PRESSCURLEW_SIZE(state, 1072);
 PRESSCURLEW_FIELD(state, queues, 0);
-PRESSCURLEW_FIELD(state, ledger, 512);
-PRESSCURLEW_FIELD(state, clock, 1000);
-PRESSCURLEW_FIELD(state, last, 1016);
-PRESSCURLEW_FIELD(state, counts, 1032);
-PRESSCURLEW_FIELD(state, tuning, 1064);
-PRESSCURLEW_FIELD(state, profile, 1088);
-PRESSCURLEW_FIELD(state, oldway, 1092);
-PRESSCURLEW_FIELD(state, live, 1096);
+PRESSCURLEW_FIELD(state, levels, 512);
+PRESSCURLEW_FIELD(state, rows, 592);
+PRESSCURLEW_FIELD(state, clock, 968);
+PRESSCURLEW_FIELD(state, last, 984);
+PRESSCURLEW_FIELD(state, counts, 1000);
+PRESSCURLEW_FIELD(state, tuning, 1032);
+PRESSCURLEW_FIELD(state, profile, 1056);
+PRESSCURLEW_FIELD(state, oldway, 1060);
+PRESSCURLEW_FIELD(state, live, 1064);
 PRESSCURLEW_SIZE(reply, 40);
 PRESSCURLEW_FIELD(reply, packet, 0);
 PRESSCURLEW_FIELD(reply, number, 24);
 PRESSCURLEW_FIELD(reply, kind, 32);
-PRESSCURLEW_SIZE(turn, 1144);
+PRESSCURLEW_SIZE(turn, 1112);
 PRESSCURLEW_FIELD(turn, state, 0);
-PRESSCURLEW_FIELD(turn, reply, 1104);
-PRESSCURLEW_SIZE(burst_turn, 1112);
+PRESSCURLEW_FIELD(turn, reply, 1072);
+PRESSCURLEW_SIZE(burst_turn, 1080);
 PRESSCURLEW_FIELD(burst_turn, state, 0);
-PRESSCURLEW_FIELD(burst_turn, number, 1104);
+PRESSCURLEW_FIELD(burst_turn, number, 1072);
 PRESSCURLEW_SIZE(level_answer, 8);
 PRESSCURLEW_FIELD(level_answer, refusal, 0);
 PRESSCURLEW_FIELD(level_answer, level, 4);

@@ -7,14 +7,14 @@
  *
  * That both are one gate is proved: from makes with the same numbers, or from any sound list and the queues that are
  * its parts, the same calls and bursts get the same answers at every step, whatever they are: refusals, displacement,
- * counts and the numbers of CLOSED among them. After each call clock, ledger, last admission, counts and what samples
- * steer are the same, and the list parted by priority is the queues.
+ * counts and the numbers of CLOSED among them. After each call clock, ledger, last admission, counts, last loads and
+ * what samples steer are the same, and the list parted by priority is the queues.
  *
  * So each call here is as the call without `plain_` in presscurlew.h says. It takes the same numbers, gives the same
  * kinds of answers and the same refusals, and is as pure; only the state is another.
  *
- *   presscurlew_turn gate = presscurlew_make(1, PRESSCURLEW_DROP_OLDEST, stamp);
- *   presscurlew_plain_turn plain = presscurlew_plain_make(1, PRESSCURLEW_DROP_OLDEST, stamp);
+ *   presscurlew_turn gate = presscurlew_make(1, PRESSCURLEW_DROP_OLDEST, presscurlew_no_list(), stamp);
+ *   presscurlew_plain_turn plain = presscurlew_plain_make(1, PRESSCURLEW_DROP_OLDEST, presscurlew_no_list(), stamp);
  *   ...
  *   gate = presscurlew_poll(gate.state, stamp);
  *   plain = presscurlew_plain_poll(plain.state, stamp);
@@ -31,7 +31,7 @@ extern "C" {
 #endif
 
 /* The number of the layout below, as PRESSCURLEW_LAYOUT is that of presscurlew.h, and that of the archive. */
-#define PRESSCURLEW_PLAIN_LAYOUT 1592883932u
+#define PRESSCURLEW_PLAIN_LAYOUT 2074384591u
 uint32_t presscurlew_plain_layout(void);
 
 /*
@@ -45,17 +45,19 @@ typedef struct presscurlew_plain_line {
 } presscurlew_plain_line;
 
 /*
- * The state of one engine: 1,080 bytes. But for the list it is that of presscurlew_state, and sound by the same rules;
+ * The state of one engine: 1,048 bytes. But for the list it is that of presscurlew_state, and sound by the same rules;
  * in the sum of the counts the packets that wait are those of the list.
  */
 typedef struct presscurlew_plain_state {
     presscurlew_plain_line line;
     presscurlew_ledger ledger;
+    presscurlew_loads loads;
+    presscurlew_levels levels; /* as it was made; no call changes it */
     presscurlew_clock clock;
     presscurlew_last last;
     presscurlew_counts counts;
     presscurlew_tuning tuning;
-    uint32_t profile; /* 1 to 4, as it was made; no call changes it */
+    uint32_t profile; /* 1 to 5, as it was made; no call changes it */
     uint32_t oldway;  /* 0 or 1, an enum presscurlew_when_full, as it was made; no call changes it */
     uint32_t live;    /* 1; 0 in the all-zero state that a refused make hands back */
 } presscurlew_plain_state;
@@ -73,7 +75,8 @@ typedef struct presscurlew_plain_burst_turn {
 } presscurlew_plain_burst_turn;
 
 /* A fresh state, as by presscurlew_make. */
-presscurlew_plain_turn presscurlew_plain_make(uint32_t profile, uint32_t when_full, uint32_t stamp);
+presscurlew_plain_turn presscurlew_plain_make(uint32_t profile, uint32_t when_full, presscurlew_levels list,
+                                              uint32_t stamp);
 
 /* A sample of the channel by words, as by presscurlew_sample_words. */
 presscurlew_plain_turn presscurlew_plain_sample_words(presscurlew_plain_state state, uint32_t probes,
@@ -101,22 +104,24 @@ presscurlew_plain_burst_turn presscurlew_plain_burst(presscurlew_plain_state sta
 PRESSCURLEW_SIZE(plain_line, 488);
 PRESSCURLEW_FIELD(plain_line, len, 0);
 PRESSCURLEW_FIELD(plain_line, packets, 8);
-PRESSCURLEW_SIZE(plain_state, 1080);
+PRESSCURLEW_SIZE(plain_state, 1048);
 PRESSCURLEW_FIELD(plain_state, line, 0);
 PRESSCURLEW_FIELD(plain_state, ledger, 488);
-PRESSCURLEW_FIELD(plain_state, clock, 976);
-PRESSCURLEW_FIELD(plain_state, last, 992);
-PRESSCURLEW_FIELD(plain_state, counts, 1008);
-PRESSCURLEW_FIELD(plain_state, tuning, 1040);
-PRESSCURLEW_FIELD(plain_state, profile, 1064);
-PRESSCURLEW_FIELD(plain_state, oldway, 1068);
-PRESSCURLEW_FIELD(plain_state, live, 1072);
-PRESSCURLEW_SIZE(plain_turn, 1120);
+PRESSCURLEW_FIELD(plain_state, loads, 656);
+PRESSCURLEW_FIELD(plain_state, levels, 864);
+PRESSCURLEW_FIELD(plain_state, clock, 944);
+PRESSCURLEW_FIELD(plain_state, last, 960);
+PRESSCURLEW_FIELD(plain_state, counts, 976);
+PRESSCURLEW_FIELD(plain_state, tuning, 1008);
+PRESSCURLEW_FIELD(plain_state, profile, 1032);
+PRESSCURLEW_FIELD(plain_state, oldway, 1036);
+PRESSCURLEW_FIELD(plain_state, live, 1040);
+PRESSCURLEW_SIZE(plain_turn, 1088);
 PRESSCURLEW_FIELD(plain_turn, state, 0);
-PRESSCURLEW_FIELD(plain_turn, reply, 1080);
-PRESSCURLEW_SIZE(plain_burst_turn, 1088);
+PRESSCURLEW_FIELD(plain_turn, reply, 1048);
+PRESSCURLEW_SIZE(plain_burst_turn, 1056);
 PRESSCURLEW_FIELD(plain_burst_turn, state, 0);
-PRESSCURLEW_FIELD(plain_burst_turn, number, 1080);
+PRESSCURLEW_FIELD(plain_burst_turn, number, 1048);
 
 #ifdef __cplusplus
 }

@@ -86,6 +86,11 @@ static uint32_t below(uint32_t bound) {
 static uint64_t words[PRESSCURLEW_MOST_WORDS];
 static uint8_t records[20 * PRESSCURLEW_RECORD_BYTES], answers[20];
 
+/* Profile 5's list, as long as one may be; no other profile looks at it. */
+static const presscurlew_levels list = {
+    8, 40000, {100000, 200000, 300000, 400000, 500000, 600000, 700000, 800000},
+    {50000, 60000, 70000, 80000, 90000, 100000, 200000, 1000000}};
+
 /* How a host behaves: how long its packets are and live, how many it has, how loud the channel is, how it polls. */
 typedef struct habit {
     uint32_t ontime, lifetime, offers, busy, between;
@@ -120,7 +125,7 @@ static presscurlew_state burst(presscurlew_state state, const habit *host, uint3
 static void walk(uint32_t profile, uint32_t when_full, const habit *host) {
     presscurlew_turn turn;
     uint32_t stamp = below(UINT32_MAX);
-    WATCHED(turn, presscurlew_make, profile, when_full, stamp);
+    WATCHED(turn, presscurlew_make, profile, when_full, list, stamp);
     for (int i = 0; i < 40 && host->busy < 500; i++) /* profile 3 gets to its greatest duty */
         turn = presscurlew_sample_count(turn.state, 0, 1000, stamp);
     for (int round = 1; round <= 60; round++) {
@@ -146,7 +151,7 @@ static void walk(uint32_t profile, uint32_t when_full, const habit *host) {
  */
 static void crowd(uint32_t profile, unsigned expired) {
     uint32_t stamp = 0;
-    presscurlew_turn turn = presscurlew_make(profile, PRESSCURLEW_DROP_OLDEST, stamp);
+    presscurlew_turn turn = presscurlew_make(profile, PRESSCURLEW_DROP_OLDEST, list, stamp);
     for (int i = 0; i < 200; i++)
         turn = presscurlew_sample_count(turn.state, 0, 1000, stamp);
     for (uint32_t i = 0; i < 40; i++, stamp += 25001) {
@@ -195,7 +200,7 @@ int main(void) {
     action.sa_flags = SA_SIGINFO;
     if (sigaction(SIGTRAP, &action, NULL) != 0)
         return 1;
-    for (uint32_t profile = 1; profile <= 4; profile++) {
+    for (uint32_t profile = 1; profile <= 5; profile++) {
         for (size_t i = 0; i < sizeof habits / sizeof *habits; i++)
             walk(profile, i % 2, &habits[i]);
         for (unsigned expired = 0; expired < 32; expired++)

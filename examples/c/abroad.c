@@ -37,7 +37,7 @@ static presscurlew_state cycle(presscurlew_state state, uint32_t busy, uint32_t 
 
 int main(void) {
     static const uint32_t busy[] = {0, 7750, 7751, 7900, 8125, 8750, 12500, 7750};
-    presscurlew_state state = presscurlew_make(4, PRESSCURLEW_DROP_OLDEST, 0).state;
+    presscurlew_state state = presscurlew_make(4, PRESSCURLEW_DROP_OLDEST, presscurlew_no_list(), 0).state;
 
     for (uint32_t i = 0; i < sizeof busy / sizeof busy[0]; i++)
         state = cycle(state, busy[i], i * APART_US);

@@ -84,7 +84,7 @@ static void six(const char *what, uint32_t when_full) {
 
     for (uint32_t i = 0; i < 6; i++)
         presscurlew_put_offer(warnings[i], i + 1, 0, 600, 1000000, 0);
-    presscurlew_state state = presscurlew_make(1, when_full, 0).state;
+    presscurlew_state state = presscurlew_make(1, when_full, presscurlew_no_list(), 0).state;
     state = presscurlew_burst(state, warnings[0], sizeof warnings, answers, sizeof answers).state;
     printf("%s: the sixth gets %u, there wait", what, answers[5]);
     for (unsigned i = 0; i < 5; i++)
@@ -93,7 +93,8 @@ static void six(const char *what, uint32_t when_full) {
 }
 
 int main(void) {
-    presscurlew_state fresh = presscurlew_make(1, PRESSCURLEW_DROP_OLDEST, 0).state, bent = fresh;
+    presscurlew_state fresh = presscurlew_make(1, PRESSCURLEW_DROP_OLDEST, presscurlew_no_list(), 0).state;
+    presscurlew_state bent = fresh;
 
     put_records();
     beside_single_calls(fresh);

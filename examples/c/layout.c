@@ -21,8 +21,18 @@ static void parts(void) {
     FIELD(queue, slots);
     SIZE(ledger);
     FIELD(ledger, len);
-    FIELD(ledger, ats);
-    FIELD(ledger, ontimes);
+    FIELD(ledger, slots);
+    SIZE(loads);
+    FIELD(loads, len);
+    FIELD(loads, slots);
+    SIZE(levels);
+    FIELD(levels, len);
+    FIELD(levels, wait);
+    FIELD(levels, above);
+    FIELD(levels, waits);
+    SIZE(rows);
+    FIELD(rows, ledger);
+    FIELD(rows, loads);
     SIZE(clock);
     FIELD(clock, time);
     FIELD(clock, stamp);
@@ -47,7 +57,8 @@ static void parts(void) {
 static void wholes(void) {
     SIZE(state);
     FIELD(state, queues);
-    FIELD(state, ledger);
+    FIELD(state, levels);
+    FIELD(state, rows);
     FIELD(state, clock);
     FIELD(state, last);
     FIELD(state, counts);

@@ -53,7 +53,8 @@ static int same_waiting(const presscurlew_plain_line *line, const presscurlew_qu
 /* Whether two states say the same. The structs that are compared as bytes have no padding. */
 static int same_state(const presscurlew_plain_state *plain, const presscurlew_state *gate) {
     return same_waiting(&plain->line, gate->queues) && plain->clock.time == gate->clock.time &&
-           plain->clock.stamp == gate->clock.stamp && memcmp(&plain->ledger, &gate->ledger, sizeof gate->ledger) == 0 &&
+           plain->clock.stamp == gate->clock.stamp &&
+           memcmp(&plain->ledger, &gate->rows.ledger, sizeof plain->ledger) == 0 &&
            memcmp(&plain->last, &gate->last, sizeof gate->last) == 0 &&
            memcmp(&plain->counts, &gate->counts, sizeof gate->counts) == 0 &&
            memcmp(&plain->tuning, &gate->tuning, sizeof gate->tuning) == 0 && plain->profile == gate->profile &&
@@ -146,7 +147,9 @@ static void report(const pair *both) {
 /* Answers 1 if both engines agreed at every call. */
 static uint32_t run(uint32_t profile, uint32_t when_full) {
     uint64_t row = UINT64_C(0x9E3779B97F4A7C15) + profile;
-    pair both = {presscurlew_make(profile, when_full, 0).state, presscurlew_plain_make(profile, when_full, 0).state,
+    presscurlew_levels list = presscurlew_no_list();
+    pair both = {presscurlew_make(profile, when_full, list, 0).state,
+                 presscurlew_plain_make(profile, when_full, list, 0).state,
                  {0}, 0, 1};
     uint32_t calls = 0;
 

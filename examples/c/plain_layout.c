@@ -16,6 +16,8 @@ int main(void) {
     SIZE(state);
     FIELD(state, line);
     FIELD(state, ledger);
+    FIELD(state, loads);
+    FIELD(state, levels);
     FIELD(state, clock);
     FIELD(state, last);
     FIELD(state, counts);

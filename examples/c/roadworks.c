@@ -244,7 +244,7 @@ static int make(host *h) {
     /* The map's pieces all differ: none that was taken may be displaced, and one that finds no room is told. */
     presscurlew_write_make(1, PRESSCURLEW_REFUSE_NEW, h->now, call, sizeof call, 0);
     record(h, call, 1);
-    presscurlew_turn turn = presscurlew_make(1, PRESSCURLEW_REFUSE_NEW, h->now);
+    presscurlew_turn turn = presscurlew_make(1, PRESSCURLEW_REFUSE_NEW, presscurlew_no_list(), h->now);
     h->state = turn.state;
     note(h, &turn.reply);
     return turn.reply.kind == PRESSCURLEW_READY;

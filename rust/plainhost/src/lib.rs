@@ -5,10 +5,10 @@
 //! both give the same answers is proved; the tests of `presscurlew` run the two archives side by side.
 //!
 //! ```
-//! use presscurlew::sys::{self, DROP_OLDEST, SENT};
+//! use presscurlew::sys::{self, Levels, DROP_OLDEST, SENT};
 //!
-//! let mut gate = sys::presscurlew_make(2, DROP_OLDEST, 0);
-//! let mut plain = plainhost::presscurlew_plain_make(2, DROP_OLDEST, 0);
+//! let mut gate = sys::presscurlew_make(2, DROP_OLDEST, Levels::NONE, 0);
+//! let mut plain = plainhost::presscurlew_plain_make(2, DROP_OLDEST, Levels::NONE, 0);
 //! for (id, priority) in [(7, 2), (8, 1), (9, 2)] {
 //!     gate = sys::presscurlew_offer(gate.state, id, priority, 400, 60_000, 100);
 //!     plain = plainhost::presscurlew_plain_offer(plain.state, id, priority, 400, 60_000, 100);
@@ -27,7 +27,9 @@
 #![deny(missing_docs)]
 #![deny(unsafe_code)]
 
-use presscurlew::sys::{self, Clock, Counts, Last, Ledger, Packet, Queue, Reply, Tuning};
+use presscurlew::sys::{
+    self, Clock, Counts, Last, Ledger, Levels, Loads, Packet, Queue, Reply, Rows, Tuning,
+};
 
 /// The most packets that wait.
 pub const PLACES: usize = 20;
@@ -104,6 +106,10 @@ pub struct State {
     pub line: Line,
     /// The admissions of the last second.
     pub ledger: Ledger,
+    /// Profile 5's last loads.
+    pub loads: Loads,
+    /// Profile 5's list of levels; no call changes it.
+    pub levels: Levels,
     /// The running time.
     pub clock: Clock,
     /// The last admission.
@@ -112,7 +118,7 @@ pub struct State {
     pub counts: Counts,
     /// What samples steer.
     pub tuning: Tuning,
-    /// 1 to 4; no call changes it.
+    /// 1 to 5; no call changes it.
     pub profile: u32,
     /// [`sys::DROP_OLDEST`] or [`sys::REFUSE_NEW`]; no call changes it.
     pub oldway: u32,
@@ -126,7 +132,11 @@ impl State {
     pub fn parted(&self) -> Option<sys::State> {
         Some(sys::State {
             queues: self.line.parted()?,
-            ledger: self.ledger,
+            levels: self.levels,
+            rows: Rows {
+                ledger: self.ledger,
+                loads: self.loads,
+            },
             clock: self.clock,
             last: self.last,
             counts: self.counts,
@@ -141,7 +151,9 @@ impl State {
     pub fn with_line(gate: &sys::State, line: Line) -> State {
         State {
             line,
-            ledger: gate.ledger,
+            ledger: gate.rows.ledger,
+            loads: gate.rows.loads,
+            levels: gate.levels,
             clock: gate.clock,
             last: gate.last,
             counts: gate.counts,
@@ -176,7 +188,7 @@ pub struct BurstTurn {
 }
 
 /// The number of the layout that this package declares; an archive of another one must not be called.
-pub const LAYOUT: u32 = 1_592_883_932;
+pub const LAYOUT: u32 = 2_074_384_591;
 
 // Safe to call, but for those that take pointers: any numbers and any state at all are answered.
 #[allow(unsafe_code)]
@@ -184,8 +196,13 @@ unsafe extern "C" {
     /// The archive's [`LAYOUT`].
     pub safe fn presscurlew_plain_layout() -> u32;
 
-    /// A fresh state; `when_full` is [`sys::DROP_OLDEST`] or [`sys::REFUSE_NEW`].
-    pub safe fn presscurlew_plain_make(profile: u32, when_full: u32, stamp: u32) -> Turn;
+    /// A fresh state; `when_full` is [`sys::DROP_OLDEST`] or [`sys::REFUSE_NEW`], and the list is profile 5's.
+    pub safe fn presscurlew_plain_make(
+        profile: u32,
+        when_full: u32,
+        list: Levels,
+        stamp: u32,
+    ) -> Turn;
 
     /// A sample by words; [`sample_words`] is the same of a slice.
     ///
@@ -259,7 +276,7 @@ mod tests {
 
     #[test]
     fn no_words_no_records_and_no_answers_may_be_null_pointers() {
-        let fresh = presscurlew_plain_make(1, sys::DROP_OLDEST, 0).state;
+        let fresh = presscurlew_plain_make(1, sys::DROP_OLDEST, Levels::NONE, 0).state;
         for probes in [0, 1, 64, u32::MAX] {
             // SAFETY: with a count of 0 nothing is read.
             let turn = unsafe { presscurlew_plain_sample_words(fresh, probes, ptr::null(), 0, 0) };

@@ -68,7 +68,14 @@ fn random_logs() {
             lifetime: rng.below(2) as u32,
             ..Record::default()
         };
-        let (mut log, mut stamp) = (make.to_bytes().to_vec(), 0);
+        let unsaid = Record {
+            priority: 5,
+            ..make
+        };
+        // A make of profile 5 is refused, and what follows it has no state until the next make.
+        let first = [unsaid, record(&mut rng, 0), make];
+        let (mut log, mut stamp) = (vec![], 0);
+        log.extend(first.iter().flat_map(Record::to_bytes));
         for _ in 0..2_000 {
             stamp += rng.below(40_000) as u32;
             log.extend(record(&mut rng, stamp).to_bytes());

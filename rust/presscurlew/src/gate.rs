@@ -34,7 +34,7 @@ use core::fmt;
 
 use crate::profile::Profile;
 use crate::sys;
-pub use crate::sys::{Counts, Packet};
+pub use crate::sys::{Counts, Level, Packet};
 
 /// The gate of one channel.
 ///
@@ -88,7 +88,7 @@ pub struct Offer {
     pub id: u32,
     /// The priority, 0 (highest) to 3.
     pub priority: u32,
-    /// The time on air in µs: at most 1,000, 500, 4,000 or 4,000, by the profile.
+    /// The time on air in µs: at most 1,000, 500, 4,000, 4,000 or 1,000, by the profile.
     pub ontime: u32,
     /// How long it may wait, in µs: at most 60,000,000.
     pub lifetime: u32,
@@ -119,8 +119,8 @@ pub enum Answer {
     /// The gate is closed.
     Closed {
         /// The µs after which the packet that is next would go, if no sample and no offer came between and it did not
-        /// expire: at least 1, and at most 1,001,000 in profile 1, 1,000,500 in profile 2, 1,000,000 in profile 3 and
-        /// 1,004,000 in profile 4.
+        /// expire: at least 1, and at most 1,001,000 in profiles 1 and 5, 1,000,500 in profile 2, 1,000,000 in profile 3
+        /// and 1,004,000 in profile 4.
         micros: u64,
     },
 }
@@ -163,7 +163,8 @@ impl Offer {
 #[non_exhaustive]
 #[derive(Clone, Copy, Debug, PartialEq, Eq, Hash)]
 pub enum Refusal {
-    /// The profile is not 1 to 4. ([`sys::presscurlew_make`] answers this also if `when_full` is above 1.)
+    /// The profile is not 1 to 5. ([`sys::presscurlew_make`] answers this also if `when_full` is above 1, and
+    /// [`sys::write_make`] for profile 5, of which there is no log.)
     BadProfile = 1,
     /// The step from the last stamp, modulo 2^32, is 2,147,483,648 or more.
     ClockBack = 2,
@@ -191,10 +192,12 @@ pub enum Refusal {
     NoRoom = 12,
     /// The bytes of a burst's records are not a multiple of 16. A [`Gate`] never answers this; [`sys::burst`] may.
     TornLog = 13,
+    /// Profile 5's list of levels breaks a rule ([`Gate::first_edition`]), or there is none.
+    BadList = 15,
 }
 
 /// The refusals in the order of their numbers.
-const REFUSALS: [Refusal; 13] = [
+const REFUSALS: [Refusal; 14] = [
     Refusal::BadProfile,
     Refusal::ClockBack,
     Refusal::ClockEnd,
@@ -208,10 +211,11 @@ const REFUSALS: [Refusal; 13] = [
     Refusal::Spent,
     Refusal::NoRoom,
     Refusal::TornLog,
+    Refusal::BadList,
 ];
 
 impl Refusal {
-    /// The refusal's number, 1 to 13, as a C caller sees it.
+    /// The refusal's number, 1 to 13 or 15, as a C caller sees it.
     pub const fn number(self) -> u32 {
         self as u32
     }
@@ -244,12 +248,13 @@ impl Refusal {
             Refusal::Spent => "SPENT",
             Refusal::NoRoom => "NO-ROOM",
             Refusal::TornLog => "TORN-LOG",
+            Refusal::BadList => "BAD-LIST",
         }
     }
 
     const fn reason(self) -> &'static str {
         match self {
-            Refusal::BadProfile => "the profile is not 1 to 4",
+            Refusal::BadProfile => "the profile is not 1 to 5, or can't be recorded",
             Refusal::ClockBack => "the clock went back",
             Refusal::ClockEnd => "the running time would pass 10^15 µs",
             Refusal::BadSample => "it is not a sample of 1 to 12,500 probes",
@@ -262,6 +267,7 @@ impl Refusal {
             Refusal::Spent => "10^15 offers were accepted already",
             Refusal::NoRoom => "there is no room for the answers or the record",
             Refusal::TornLog => "the bytes are not a multiple of 16",
+            Refusal::BadList => "the list of levels breaks a rule",
         }
     }
 }
@@ -296,24 +302,80 @@ fn taken(answer: u8) -> Result<(), Refusal> {
 }
 
 impl Gate {
-    /// A fresh gate of profile 1 to 4, at the radio's stamp. What it does when a queue is full is fixed here.
+    /// A fresh gate of profile 1 to 4, at the radio's stamp. What it does when a queue is full is fixed here. Profile 5
+    /// needs a list of levels, and [`Gate::first_edition`] makes it.
     ///
     /// # Errors
     ///
-    /// [`Refusal::BadProfile`].
+    /// [`Refusal::BadProfile`], and of profile 5 [`Refusal::BadList`].
     ///
     /// # Panics
     ///
     /// If the archive that is linked has another layout than this package ([`sys::LAYOUT`]).
     pub fn new(profile: u32, when_full: WhenFull, stamp: u32) -> Result<Gate, Refusal> {
+        Gate::made(profile, when_full, sys::Levels::NONE, stamp)
+    }
+
+    /// A fresh gate of profile 5, the first edition's: the wait of level 0, and up to eight levels above it, each with
+    /// the load that leads to it and its own wait.
+    ///
+    /// The level goes up once the last ten samples reach its threshold, and down once none of the last fifty does; it
+    /// moves at once, by as many levels as that is.
+    ///
+    /// ```
+    /// use presscurlew::{Gate, Level, Refusal, WhenFull};
+    ///
+    /// let levels = [Level { above: 300_000, wait: 200_000 }, Level { above: 600_000, wait: 1_000_000 }];
+    /// let mut gate = Gate::first_edition(60_000, &levels, WhenFull::DropOldest, 0)?;
+    /// for _ in 0..9 {
+    ///     gate.sample_count(1_000, 1_000, 0)?;
+    /// }
+    /// assert_eq!(gate.state().tuning.level, 0);
+    /// gate.sample_count(1_000, 1_000, 0)?;
+    /// assert_eq!(gate.state().tuning.level, 2);
+    ///
+    /// // Thresholds rise, and there are 1 to 8.
+    /// let [low, high] = levels;
+    /// for bad in [&[high, low][..], &[low, low], &[], &[low; 9]] {
+    ///     let refused = Gate::first_edition(60_000, bad, WhenFull::DropOldest, 0);
+    ///     assert_eq!(refused, Err(Refusal::BadList));
+    /// }
+    /// # Ok::<(), Refusal>(())
+    /// ```
+    ///
+    /// # Errors
+    ///
+    /// [`Refusal::BadList`], unless there are 1 to 8 levels, all waits are 40,000 to 1,000,000 µs, and the thresholds are
+    /// at most 1,000,000 and rise strictly, the first above 0.
+    ///
+    /// # Panics
+    ///
+    /// As [`Gate::new`].
+    pub fn first_edition(
+        wait: u32,
+        levels: &[Level],
+        when_full: WhenFull,
+        stamp: u32,
+    ) -> Result<Gate, Refusal> {
+        let list = sys::Levels::of(wait, levels);
+        Gate::made(Profile::FirstEdition.number(), when_full, list, stamp)
+    }
+
+    fn made(
+        profile: u32,
+        when_full: WhenFull,
+        list: sys::Levels,
+        stamp: u32,
+    ) -> Result<Gate, Refusal> {
         let layout = sys::presscurlew_layout();
         assert_eq!(layout, sys::LAYOUT, "the archive is not of this package");
-        let turn = sys::presscurlew_make(profile, when_full as u32, stamp);
+        let turn = sys::presscurlew_make(profile, when_full as u32, list, stamp);
         accepted(turn.reply)?;
         Ok(Gate { state: turn.state })
     }
 
-    /// The same, where the profile is known by its name. None of those that there are is refused.
+    /// A fresh gate as [`Gate::new`] makes it, where the profile is known by its name. None but
+    /// [`Profile::FirstEdition`] is refused.
     ///
     /// ```
     /// use presscurlew::{Gate, Profile, WhenFull};
@@ -553,6 +615,7 @@ impl Gate {
     /// let mut gate = presscurlew::Gate::new(1, presscurlew::WhenFull::DropOldest, 0)?;
     /// gate.sample_count(700, 1_000, 100_000)?;
     /// assert_eq!(gate.state().tuning.level, 1);
+    /// assert_eq!(gate.state().admissions().count(), 0);
     /// # Ok::<(), presscurlew::Refusal>(())
     /// ```
     pub fn state(&self) -> &sys::State {

@@ -61,7 +61,7 @@ pub mod recorder;
 pub mod rules;
 pub mod sys;
 
-pub use gate::{Answer, Counts, Gate, Offer, Packet, Refusal, WhenFull};
+pub use gate::{Answer, Counts, Gate, Level, Offer, Packet, Refusal, WhenFull};
 pub use profile::Profile;
 #[cfg(feature = "std")]
 pub use recorder::{RecordError, Recorder};

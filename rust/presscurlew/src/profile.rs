@@ -25,6 +25,9 @@ pub enum Profile {
     Adaptive = 3,
     /// 4: harmonised, ETSI EN 302 571, clause 4.2.10: packets of up to 4,000 µs.
     Harmonised = 4,
+    /// 5: by a list of levels, ETSI TS 102 687 V1.1.1, clause 6.4: packets of up to 1,000 µs. It needs its list
+    /// ([`Gate::first_edition`](crate::Gate::first_edition)).
+    FirstEdition = 5,
 }
 
 impl Profile {
@@ -34,6 +37,7 @@ impl Profile {
         Profile::ReactiveA2,
         Profile::Adaptive,
         Profile::Harmonised,
+        Profile::FirstEdition,
     ];
 
     /// The profile's number.
@@ -65,6 +69,7 @@ impl fmt::Display for Profile {
             Profile::ReactiveA2 => "2, reactive by Table A.2",
             Profile::Adaptive => "3, adaptive",
             Profile::Harmonised => "4, harmonised",
+            Profile::FirstEdition => "5, first edition",
         })
     }
 }

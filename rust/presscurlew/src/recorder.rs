@@ -24,6 +24,7 @@ use std::io::{self, Write};
 use std::vec::Vec;
 
 use crate::gate::{Answer, Gate, Offer, Refusal, WhenFull};
+use crate::profile::Profile;
 use crate::sys::{self, RECORD_BYTES};
 
 /// A [`Gate`] that writes each call to a log before it makes it.
@@ -47,6 +48,9 @@ use crate::sys::{self, RECORD_BYTES};
 /// recorder then records, and makes, a call that fits and is refused in the same way: profile 255, priority 255 or
 /// on-time 65,535 for one above it, and 4,294,967,295 busy of 1,000 probes for words that are no sample and for a count
 /// of 0 probes.
+///
+/// **No recorder of profile 5.** No record has room for its list of levels, so that its make is refused here with
+/// [`Refusal::BadProfile`], as a log is that says 5, and is recorded as profile 255 too.
 #[derive(Debug)]
 pub struct Recorder<W> {
     gate: Gate,
@@ -143,8 +147,9 @@ impl<W: Write> Recorder<W> {
     ) -> Result<Recorder<W>, RecordError> {
         let failed = false;
         let mut log = Log { sink, failed };
-        // Any profile above 4 is refused, so that the most that fits stands for those above it.
-        let profile = profile.min(u8::MAX.into());
+        // A profile that no record says: the most that fits is refused as it is.
+        let unsaid = profile == Profile::FirstEdition.number() || profile > u8::MAX.into();
+        let profile = if unsaid { u8::MAX.into() } else { profile };
         let way = when_full as u32;
         log.record(|place| sys::write_make(profile, way, stamp, place, 0))?;
         let gate = Gate::new(profile, when_full, stamp)?;

@@ -14,7 +14,7 @@
 //! ```
 //! use presscurlew::sys;
 //!
-//! let made = sys::presscurlew_make(2, sys::DROP_OLDEST, 0);
+//! let made = sys::presscurlew_make(2, sys::DROP_OLDEST, sys::Levels::NONE, 0);
 //! let offered = sys::presscurlew_offer(made.state, 7, 1, 400, 60_000, 100);
 //! let polled = sys::presscurlew_poll(offered.state, 200);
 //! assert_eq!((polled.reply.kind, polled.reply.packet.id), (sys::SENT, 7));
@@ -76,7 +76,7 @@ pub struct FloatAnswer {
 pub const VERSION_NUMBER: u32 = 9_000;
 /// The number of the layout that this module declares. An archive whose [`presscurlew_layout`] is another one has
 /// other structs or other calls, and must not be called; [`crate::Gate::new`] sees to it.
-pub const LAYOUT: u32 = 1_253_097_843;
+pub const LAYOUT: u32 = 1_764_727_010;
 
 // Safe to call: the archives' functions answer any numbers at all, and touch no memory of the caller's.
 #[allow(unsafe_code)]
@@ -102,7 +102,7 @@ unsafe extern "C" {
     ) -> DutyAnswer;
 
     /// The wait after a packet of this on-time, the latest sample having this load: from the packet's end in profiles
-    /// 1, 2 and 4, from its start in profile 3.
+    /// 1, 2 and 4, from its start in profile 3. Profile 5, whose waits stand in a list, is refused with 1.
     pub safe fn presscurlew_wait(
         profile: u32,
         level: u32,
@@ -158,26 +158,156 @@ pub struct Clock {
 
 /// The admissions of the last second, in every profile: younger than 1,000,000 µs, at least 25,000 µs apart, with at
 /// most 30,000 µs of on-time in all. The newest is the last admission; once that is older, the ledger is empty.
+///
+/// Each is one word: how long before the last admission it was made, in µs, times 4,096, and its on-time. The word of
+/// the newest so is its on-time. [`Ledger::admissions`] reads them.
 #[repr(C)]
 #[derive(Clone, Copy, Debug, PartialEq, Eq, Hash)]
 pub struct Ledger {
     /// How many it holds, 0 to 40.
     pub len: u64,
-    /// The running times at which the first `len` were made, the oldest first; the others are 0.
-    pub ats: [u64; 40],
-    /// The on-times of their packets in µs, in the same places; the others are 0.
-    pub ontimes: [u32; 40],
+    /// The first `len` are their words, the oldest first; the others are 0.
+    pub slots: [u32; MOST_ADMISSIONS],
 }
+
+/// The most admissions that a ledger holds.
+pub const MOST_ADMISSIONS: usize = 40;
+
+/// What the distance is multiplied by in a word of a ledger: more than any on-time.
+const WORD_STEP: u32 = 4_096;
 
 impl Default for Ledger {
     /// A ledger without admissions.
     fn default() -> Ledger {
         Ledger {
             len: 0,
-            ats: [0; 40],
-            ontimes: [0; 40],
+            slots: [0; MOST_ADMISSIONS],
         }
     }
+}
+
+impl Ledger {
+    /// The admissions, the oldest first, where `last` is that of the same state. Of a state that is not sound they mean
+    /// nothing: a length above 40 is read as 40, and a word that says more than there is before the last admission as
+    /// one at 0.
+    pub fn admissions(&self, last: Last) -> impl Iterator<Item = Admission> + '_ {
+        let held = self.slots.iter().zip(0..self.len);
+        held.map(move |(word, _)| Admission {
+            at: last.at.saturating_sub(u64::from(word / WORD_STEP)),
+            ontime: word % WORD_STEP,
+        })
+    }
+}
+
+/// An admission of the last second.
+#[derive(Clone, Copy, Debug, Default, PartialEq, Eq, Hash)]
+pub struct Admission {
+    /// The running time at which it was made.
+    pub at: u64,
+    /// The on-time of its packet in µs.
+    pub ontime: u32,
+}
+
+/// A level of profile 5 above level 0.
+#[derive(Clone, Copy, Debug, PartialEq, Eq, Hash)]
+pub struct Level {
+    /// Its threshold, as a load: in parts per 1,000,000.
+    pub above: u32,
+    /// Its wait in µs.
+    pub wait: u32,
+}
+
+/// The most levels that a list has above level 0.
+pub const MOST_LEVELS: usize = 8;
+
+/// Profile 5's list of levels, which a make is given; in the state of any other profile it is [`Levels::NONE`]. Level 0
+/// has threshold 0 and the wait `wait`, and level k, from 1 to `len`, threshold `above[k - 1]` and wait `waits[k - 1]`.
+///
+/// A good list has 1 to 8 levels above level 0, waits of 40,000 to 1,000,000 µs, which may rise or fall, and thresholds
+/// that are at most 1,000,000 and rise strictly, the first above 0. What a list has past its length isn't looked at
+/// when a gate is made; in a state it is 0.
+#[repr(C)]
+#[derive(Clone, Copy, Debug, Default, PartialEq, Eq, Hash)]
+pub struct Levels {
+    /// How many levels there are above level 0, 1 to 8; the archive's lengths have 64 bits.
+    pub len: u64,
+    /// The wait of level 0 in µs.
+    pub wait: u32,
+    /// The thresholds of levels 1 to `len`, as loads.
+    pub above: [u32; MOST_LEVELS],
+    /// Their waits in µs.
+    pub waits: [u32; MOST_LEVELS],
+}
+
+impl Levels {
+    /// No list, for profiles 1 to 4.
+    pub const NONE: Levels = Levels {
+        len: 0,
+        wait: 0,
+        above: [0; MOST_LEVELS],
+        waits: [0; MOST_LEVELS],
+    };
+
+    /// A list of the wait of level 0 and of the levels above it. More than [`MOST_LEVELS`] have no room, and the list's
+    /// length says that there were more: no gate is made of it.
+    ///
+    /// ```
+    /// use presscurlew::sys::{self, Level, Levels};
+    ///
+    /// let list = Levels::of(60_000, &[Level { above: 500_000, wait: 400_000 }]);
+    /// assert_eq!((list.len, list.above[0], list.waits[0]), (1, 500_000, 400_000));
+    /// assert_eq!(sys::presscurlew_make(5, sys::DROP_OLDEST, list, 0).state.levels, list);
+    ///
+    /// let steps: Vec<Level> = (1..=9).map(|k| Level { above: 100_000 * k, wait: 100_000 }).collect();
+    /// let longer = Levels::of(60_000, &steps);
+    /// assert_eq!(sys::presscurlew_make(5, sys::DROP_OLDEST, longer, 0).reply.number, 15);
+    /// ```
+    pub fn of(wait: u32, listed: &[Level]) -> Levels {
+        let len = listed.len() as u64;
+        let mut list = Levels {
+            len,
+            wait,
+            ..Levels::NONE
+        };
+        for (place, level) in listed.iter().take(MOST_LEVELS).enumerate() {
+            list.above[place] = level.above;
+            list.waits[place] = level.wait;
+        }
+        list
+    }
+}
+
+/// The most loads that a state of profile 5 holds.
+pub const MOST_LOADS: usize = 50;
+
+/// The loads of the last samples that were taken, in profile 5; in the state of any other profile there are none.
+#[repr(C)]
+#[derive(Clone, Copy, Debug, PartialEq, Eq, Hash)]
+pub struct Loads {
+    /// How many it holds, 0 to 50.
+    pub len: u64,
+    /// The first `len`, the oldest first, in parts per 1,000,000; the others are 0.
+    pub slots: [u32; MOST_LOADS],
+}
+
+impl Default for Loads {
+    /// No loads.
+    fn default() -> Loads {
+        Loads {
+            len: 0,
+            slots: [0; MOST_LOADS],
+        }
+    }
+}
+
+/// What calls change in rows.
+#[repr(C)]
+#[derive(Clone, Copy, Debug, Default, PartialEq, Eq, Hash)]
+pub struct Rows {
+    /// The admissions of the last second.
+    pub ledger: Ledger,
+    /// Profile 5's last loads.
+    pub loads: Loads,
 }
 
 /// The last admission, however long ago. Before the first one all fields are 0.
@@ -210,7 +340,7 @@ pub struct Counts {
 #[repr(C)]
 #[derive(Clone, Copy, Debug, Default, PartialEq, Eq, Hash)]
 pub struct Tuning {
-    /// The level, 0 to 4.
+    /// The level, 0 to 4; in profile 5 one of its list, 0 to 8.
     pub level: u32,
     /// The duty, in parts per 1,000,000,000.
     pub duty: u32,
@@ -230,8 +360,10 @@ pub struct Tuning {
 pub struct State {
     /// The queues, by priority.
     pub queues: [Queue; 4],
-    /// The admissions of the last second.
-    pub ledger: Ledger,
+    /// Profile 5's list of levels; no call changes it.
+    pub levels: Levels,
+    /// The admissions of the last second, and profile 5's last loads.
+    pub rows: Rows,
     /// The clock.
     pub clock: Clock,
     /// The last admission.
@@ -240,13 +372,36 @@ pub struct State {
     pub counts: Counts,
     /// What samples steer.
     pub tuning: Tuning,
-    /// The profile, 1 to 4; no call changes it.
+    /// The profile, 1 to 5; no call changes it.
     pub profile: u32,
     /// [`DROP_OLDEST`] or [`REFUSE_NEW`]; no call changes it.
     pub oldway: u32,
     /// 1; 0 in the all-zero state that a refused make hands back.
     pub live: u32,
 }
+
+impl State {
+    /// The admissions of the last second, the oldest first.
+    ///
+    /// ```
+    /// use presscurlew::sys::{self, Admission};
+    ///
+    /// let mut state = sys::presscurlew_make(2, sys::DROP_OLDEST, sys::Levels::NONE, 0).state;
+    /// for stamp in [0, 100_000] {
+    ///     let offered = sys::presscurlew_offer(state, 7, 1, 400, 60_000, stamp);
+    ///     state = sys::presscurlew_poll(offered.state, stamp).state;
+    /// }
+    /// let one = |at| Admission { at, ontime: 400 };
+    /// assert!(state.admissions().eq([one(0), one(100_000)]));
+    /// assert_eq!(state.rows.ledger.slots[..3], [100_000 * 4_096 + 400, 400, 0]);
+    /// ```
+    pub fn admissions(&self) -> impl Iterator<Item = Admission> + '_ {
+        self.rows.ledger.admissions(self.last)
+    }
+}
+
+// A target that aligns numbers otherwise has no archive. `examples/c/layout.out` has the place of every field.
+const _: () = assert!(size_of::<Ledger>() == 168 && size_of::<State>() == 1_072);
 
 /// Made so, a gate drops the front packet of a full queue for a new one.
 pub const DROP_OLDEST: u32 = 0;
@@ -313,8 +468,9 @@ pub const RECORD_OFFER: u8 = 2;
 // Safe to call, but for those that take pointers: any numbers and any state at all are answered.
 #[allow(unsafe_code)]
 unsafe extern "C" {
-    /// A fresh state; `when_full` is [`DROP_OLDEST`] or [`REFUSE_NEW`].
-    pub safe fn presscurlew_make(profile: u32, when_full: u32, stamp: u32) -> Turn;
+    /// A fresh state; `when_full` is [`DROP_OLDEST`] or [`REFUSE_NEW`], and the list is profile 5's: no other profile
+    /// looks at it.
+    pub safe fn presscurlew_make(profile: u32, when_full: u32, list: Levels, stamp: u32) -> Turn;
 
     /// A sample by words; [`sample_words`] is the same of a slice.
     ///
@@ -440,7 +596,7 @@ pub fn sample_words(state: State, probes: u32, words: &[u64], stamp: u32) -> Tur
 /// ```
 /// use presscurlew::{sys, Offer};
 ///
-/// let fresh = sys::presscurlew_make(1, sys::DROP_OLDEST, 0).state;
+/// let fresh = sys::presscurlew_make(1, sys::DROP_OLDEST, sys::Levels::NONE, 0).state;
 /// let offer = Offer { id: 7, priority: 1, ontime: 400, lifetime: 60_000 };
 /// let bad = Offer { priority: 4, ..offer };
 /// let records = [offer.record(100), bad.record(100)];
@@ -458,8 +614,9 @@ pub fn burst(state: State, records: &[u8], answers: &mut [u8]) -> BurstTurn {
 
 /// Writes a make's record, 16 bytes at `at` of the log, and answers 0. Other bytes of the log keep what they had.
 ///
-/// The answer is 1 if the profile is above 255 or `when_full` above 1, else 12 if there are no 16 bytes at `at`, and
-/// then nothing is written. A profile up to 255 is written, whatever it is worth.
+/// The answer is 1 if the profile is 5, whose list no record has room for, or above 255, or `when_full` is above 1,
+/// else 12 if there are no 16 bytes at `at`, and then nothing is written. Any other profile up to 255 is written,
+/// whatever it is worth.
 ///
 /// ```
 /// use presscurlew::sys;
@@ -470,6 +627,7 @@ pub fn burst(state: State, records: &[u8], answers: &mut [u8]) -> BurstTurn {
 /// assert_eq!(log[4..], [0, 3, 0, 0, 1, 0, 0, 0, 0, 0, 0, 0, 1, 2, 3, 4]);
 ///
 /// assert_eq!(sys::write_make(256, sys::REFUSE_NEW, 0, &mut log, 5), 1);
+/// assert_eq!(sys::write_make(5, sys::REFUSE_NEW, 0, &mut log, 4), 1);
 /// assert_eq!(sys::write_make(255, sys::REFUSE_NEW, 0, &mut log, 5), 12);
 /// ```
 #[allow(unsafe_code)]
@@ -577,7 +735,7 @@ mod tests {
 
     #[test]
     fn no_words_may_be_a_null_pointer() {
-        let fresh = presscurlew_make(1, DROP_OLDEST, 0).state;
+        let fresh = presscurlew_make(1, DROP_OLDEST, Levels::NONE, 0).state;
         for probes in [0, 1, 64, u32::MAX] {
             // SAFETY: with a count of 0 nothing is read.
             let turn = unsafe { presscurlew_sample_words(fresh, probes, ptr::null(), 0, 0) };
@@ -588,7 +746,7 @@ mod tests {
 
     #[test]
     fn no_records_and_no_answers_may_be_null_pointers() {
-        let fresh = presscurlew_make(1, DROP_OLDEST, 0).state;
+        let fresh = presscurlew_make(1, DROP_OLDEST, Levels::NONE, 0).state;
         let record = [RECORD_OFFER; RECORD_BYTES];
         for (bytes, number) in [(0, 0), (15, 13), (16, 12)] {
             let records = if bytes == 0 {
@@ -602,6 +760,27 @@ mod tests {
             assert_eq!(turn, BurstTurn { state, number });
         }
     }
+
+    #[test]
+    fn admissions_of_any_ledger_can_be_read() {
+        let mut ledger = Ledger {
+            len: u64::MAX,
+            slots: [u32::MAX; MOST_ADMISSIONS],
+        };
+        let last = Last {
+            at: 1_048_574,
+            ontime: 1,
+            admitted: 1,
+        };
+        let oldest = Admission {
+            at: 0,
+            ontime: 4_095,
+        };
+        assert!(ledger.admissions(last).eq([oldest; MOST_ADMISSIONS]));
+        ledger.len = 0;
+        assert_eq!(ledger.admissions(last).next(), None);
+    }
+
     #[test]
     fn no_log_and_no_words_may_be_null_pointers() {
         let none = ptr::null_mut();

@@ -4,7 +4,7 @@ use std::collections::BTreeMap;
 
 use presscurlew::floats::BadFloat;
 use presscurlew::rules::RuleRefusal;
-use presscurlew::{sys, Profile, Refusal};
+use presscurlew::{sys, Level, Profile, Refusal};
 
 const HEADER: &str = include_str!("../../../include/presscurlew.h");
 const PLAIN_HEADER: &str = include_str!("../../../include/presscurlew_plain.h");
@@ -122,7 +122,14 @@ fn refusals_of_the_rules_have_the_header_s_numbers_and_names() {
 #[test]
 fn profiles_by_name_are_those_that_make_takes() {
     for number in (0..300).chain([u32::MAX]) {
-        let made = sys::presscurlew_make(number, sys::DROP_OLDEST, 0);
+        let list = sys::Levels::of(
+            40_000,
+            &[Level {
+                above: 1,
+                wait: 40_000,
+            }],
+        );
+        let made = sys::presscurlew_make(number, sys::DROP_OLDEST, list, 0);
         let profile = Profile::try_from(number);
         assert_eq!(profile.is_ok(), made.reply.kind == sys::READY, "{number}");
         if let Ok(profile) = profile {

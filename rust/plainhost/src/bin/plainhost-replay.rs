@@ -4,7 +4,7 @@
 use std::io::{self, BufWriter, Read, Write};
 
 use plainhost::{State, Turn};
-use presscurlew::sys;
+use presscurlew::sys::{self, Levels};
 use reference::gate::Call;
 use reference::log::{read, LogCall, Record, RECORD_BYTES};
 
@@ -31,9 +31,18 @@ fn play(state: State, bytes: &[u8; RECORD_BYTES]) -> Turn {
             profile,
             oldway,
             stamp,
-        }) => plainhost::presscurlew_plain_make(profile, oldway, stamp),
+            ..
+        }) => plainhost::presscurlew_plain_make(said(profile), oldway, Levels::NONE, stamp),
         Ok(LogCall::On(call)) => on(state, &call),
         Err(number) => refused(state, number),
+    }
+}
+
+/// The profile of a make: one that says 5, whose list a log can't carry, is refused as 0 is.
+fn said(profile: u32) -> u32 {
+    match profile {
+        5 => 0,
+        other => other,
     }
 }
 

@@ -4,26 +4,34 @@
 use std::collections::BTreeMap;
 
 use crate::help::{
-    calls_at, hold, hold_no_state, hold_no_state_burst, raw, ACCEPTED_MOST, PROFILES, TIME_END,
+    age_of, calls_at, fresh, hold, hold_any, hold_no_state, hold_no_state_burst, ontime_of, raw,
+    raw_if, read_state, word, ACCEPTED_MOST, PROFILES, TIME_END,
 };
 use presscurlew::sys;
 use reference::ledgers::{self, row};
+use reference::lists;
 use reference::miscounts::{one_off, wrapping};
 use reference::rng::Rng;
 use reference::rules;
-use reference::state::{broken_rules, rule_names, sound, Admission, Counts, Packet, Queue, State};
+use reference::state::{
+    broken_rules, rule_names, Admission, Counts, Levels, Loads, Packet, Queue, State,
+};
 
 pub const TIME: u64 = 5_000_000_000;
 
 /// A sound state with this many packets in each queue, and the more admissions the more packets; profile 3 keeps a
-/// sample, and profile 4 has had one. With an odd number a full queue refuses, with an even one it drops its oldest.
+/// sample, and profiles 4 and 5 have had some. With an odd number a full queue refuses, with an even one it drops its oldest.
 pub fn base(profile: u32, length: usize) -> State {
     let ontime = rules::on_time_max(profile).unwrap();
-    let mut state = State::fresh(profile, length as u32 % 2, 77);
+    let mut state = fresh(profile, length as u32 % 2, 77);
     state.time = TIME;
     state.haskept = profile == 3;
     state.kept = if state.haskept { 400_000 } else { 0 };
     state.latest = if profile == 4 { 700_000 } else { 0 };
+    if profile == 5 {
+        state.loads = Loads::of(&vec![400_000; 10 * length]);
+        state.level = 1;
+    }
     let admissions = row(1 + 7 * length as u64, 25_000, ontime.min(750), TIME - 10);
     for priority in 0..4 {
         let packet = Packet {
@@ -60,7 +68,46 @@ pub fn ledger_states(profile: u32) -> Vec<State> {
         rows.push(few);
     }
     let states = rows.iter().map(|row| state.with_admissions(row));
-    states.collect()
+    states.chain(early_states(profile)).collect()
+}
+
+/// Sound states of a gate's first second, in which the oldest admission was made at 0: no word can say more.
+fn early_states(profile: u32) -> Vec<State> {
+    let most = rules::on_time_max(profile).unwrap();
+    let rows = [
+        (0, vec![]),
+        (0, row(1, 0, 1, 0)),
+        (999_999, row(1, 0, most, 0)),
+        (25_000, row(2, 25_000, most, 25_000)),
+        (975_000, row(40, 25_000, most.min(750), 975_000)),
+        (999_999, row(40, 25_000, 1, 975_000)),
+    ];
+    let state = |(time, row): &(u64, Vec<Admission>)| {
+        let mut state = fresh(profile, 0, 77);
+        state.time = *time;
+        state.with_admissions(row)
+    };
+    rows.iter().map(state).collect()
+}
+
+/// Sound states of profile 5 with lists of every length and loads of many, at any level of the list; of the other
+/// profiles one state, which has neither.
+pub fn listed_states(profile: u32) -> Vec<State> {
+    let mut state = base(profile, 3);
+    if profile != 5 {
+        return vec![state];
+    }
+    let mut states = vec![];
+    for (length, many) in (1..=8).zip([0, 1, 9, 10, 11, 49, 50, 50]) {
+        let level = |k: u32| (125_000 * k, 40_000 + 120_000 * k);
+        let listed: Vec<(u32, u32)> = (1..=length).map(level).collect();
+        state.levels = Levels::of(40_000, &listed);
+        state.loads = Loads::of(&vec![1_000_000; many]);
+        for level in [0, length] {
+            states.push(State { level, ..state });
+        }
+    }
+    states
 }
 
 /// Broken states, each with the name of the rule that it breaks.
@@ -77,17 +124,23 @@ impl Broken {
     }
 
     fn profile_and_tuning(&mut self, profile: u32) {
-        let (empty, full) = (State::fresh(profile, 0, 77), base(profile, 5));
+        let (empty, full) = (fresh(profile, 0, 77), base(profile, 5));
         self.add("live", full, |s| s.live = false);
-        for bad in [0, 5, 6, 256 + profile, 1 << 31, u32::MAX] {
-            self.add("profile 1 to 4", empty, |s| s.profile = bad);
+        for bad in [0, 6, 7, 256 + profile, 1 << 31, u32::MAX] {
+            // Of no profile that there is: a list would be a second rule broken.
+            self.add("profile 1 to 5", empty, |s| {
+                s.profile = bad;
+                s.levels = Levels::default();
+            });
         }
         for bad in [2, 3, 256, 1 << 31, u32::MAX] {
             self.add("old way 0 or 1", empty, |s| s.oldway = bad);
             self.add("old way 0 or 1", full, |s| s.oldway = bad);
         }
         for bad in [5, 6, 1 << 31, u32::MAX] {
-            self.add("level at most 4", full, |s| s.level = bad);
+            if profile != 5 {
+                self.add("level at most 4", full, |s| s.level = bad);
+            }
         }
         for bad in [0, 1, 599_999, 30_000_001, u32::MAX] {
             self.add("duty within limits", full, |s| s.duty = bad);
@@ -117,7 +170,7 @@ impl Broken {
 
     /// The latest load, which is zero but in profile 4.
     fn latest(&mut self, profile: u32) {
-        for state in [State::fresh(profile, 0, 77), base(profile, 5)] {
+        for state in [fresh(profile, 0, 77), base(profile, 5)] {
             if profile == 4 {
                 for bad in [1_000_001, 1_000_002, 1 << 20, 1 << 31, u32::MAX] {
                     self.add("latest load at most 1,000,000", state, |s| s.latest = bad);
@@ -171,7 +224,7 @@ impl Broken {
     }
 
     fn lengths(&mut self, profile: u32) {
-        for state in [State::fresh(profile, 1, 77), base(profile, 5)] {
+        for state in [fresh(profile, 1, 77), base(profile, 5)] {
             for queue in 0..4 {
                 for bad in [6, 7, 255, 1 << 32, (1 << 32) + 1, 1 << 63, u64::MAX] {
                     // The counts add up without that queue, of which nothing can be read.
@@ -260,9 +313,12 @@ impl Broken {
             broken.latest(profile);
             broken.clock_and_last(profile);
             broken.lengths(profile);
-            broken.counts(State::fresh(profile, 0, 77), &mut rng);
+            broken.counts(fresh(profile, 0, 77), &mut rng);
             for state in ledger_states(profile) {
                 broken.states.extend(ledgers::broken(&state));
+            }
+            for state in listed_states(profile) {
+                broken.states.extend(lists::broken(&state));
             }
             for length in 0..=5 {
                 broken.counts(base(profile, length), &mut rng);
@@ -276,9 +332,26 @@ impl Broken {
     }
 }
 
-/// States that break one rule, each with its name.
+/// A ledger that is too long, with the words of a good one. Of it nothing is read, so nothing young was admitted.
+fn longer_ledger(state: &State, len: u64) -> State {
+    let mut longer = raw(&state.with_admissions(&[]));
+    let slots = raw(state).rows.ledger.slots;
+    longer.rows.ledger = sys::Ledger { len, slots };
+    read_state(&longer).expect("no word is read")
+}
+
+/// States that break one rule, each with its name. Of those of the reference some have no words: a word is read from the
+/// last admission on, and can't be later than that.
 pub fn broken_states() -> Vec<(&'static str, State)> {
-    Broken::all().states
+    let mut states = Broken::all().states;
+    states.retain(|(_, state)| raw_if(state).is_some());
+    for state in PROFILES.into_iter().flat_map(ledger_states) {
+        for len in [41, 42, 256, (1 << 32) + 1, 1 << 63, u64::MAX] {
+            let longer = longer_ledger(&state, len);
+            states.push(("ledger length at most 40", longer));
+        }
+    }
+    states
 }
 
 /// Every call on a state is refused with 9, whatever else is wrong with it; in a burst each offer is.
@@ -305,7 +378,8 @@ fn hold_all_calls(state: &sys::State, origin: &dyn std::fmt::Display) {
 fn bases_are_sound() {
     for profile in PROFILES {
         let bases = (0..=5).map(|length| base(profile, length));
-        for state in bases.chain(ledger_states(profile)) {
+        let ledgers = ledger_states(profile);
+        for state in bases.chain(ledgers).chain(listed_states(profile)) {
             assert_eq!(broken_rules(&state), [""; 0]);
             for call in calls_at(profile, 78) {
                 hold(&state, &call, &"base");
@@ -314,30 +388,179 @@ fn bases_are_sound() {
     }
 }
 
-/// Numbers of a ledger that are far off, in every place: in most of these more than one rule is broken.
+/// A word near the given one, or far off.
+fn bent_words(given: u32, profile: u32, last: u64) -> Vec<u32> {
+    let (age, ontime) = (age_of(given), ontime_of(given));
+    let most = rules::on_time_max(profile).unwrap();
+    let last = last.min((1 << 20) - 2) as u32;
+    let ages = [
+        0,
+        1,
+        24_999,
+        25_000,
+        age + 1,
+        age.saturating_sub(1),
+        last,
+        last + 1,
+        999_999,
+        1_000_000,
+        (1 << 20) - 1,
+    ];
+    let ontimes = [0, 1, ontime + 1, most, most + 1, 4_000, 4_001, 4_095];
+    let mut all: Vec<u32> = ages.map(|age| word(age, ontime)).into();
+    all.extend(ontimes.map(|ontime| word(age, ontime)));
+    all.extend((0..32).map(|bit| given ^ 1 << bit));
+    all.extend([0, u32::MAX]);
+    all.retain(|bent| *bent != given);
+    all
+}
+
+/// A word that is another one, in every place: where the reference reads a sound ledger it is answered so, else with 9.
 #[test]
-fn ledgers_of_wild_numbers_are_refused_with_9() {
-    let mut refused = 0;
+fn words_that_are_bent_are_read_or_refused_with_9() {
+    let mut seen = [0; 2];
     for profile in PROFILES {
-        for state in ledger_states(profile) {
+        for state in ledger_states(profile).iter().map(raw) {
             for place in 0..40 {
-                let Admission { at, ontime } = state.ledger.slots[place];
-                let ats = [0, at + (1 << 32), at ^ 1 << 63, TIME + 1, u64::MAX];
-                let ontimes = [ontime + (1 << 16), ontime ^ 1 << 31, u32::MAX];
-                let bent = ats.map(|at| Admission { at, ontime });
-                let bent = bent.into_iter();
-                let bent = bent.chain(ontimes.map(|ontime| Admission { at, ontime }));
-                for admission in bent.filter(|bent| *bent != state.ledger.slots[place]) {
-                    let mut state = state;
-                    state.ledger.slots[place] = admission;
-                    assert!(!sound(&state), "{state:?}");
-                    hold_all_calls(&raw(&state), &format_args!("{state:?}"));
-                    refused += 1;
+                for word in bent_words(state.rows.ledger.slots[place], profile, state.last.at) {
+                    let mut bent = state;
+                    bent.rows.ledger.slots[place] = word;
+                    seen[usize::from(hold_alike(&bent, &"a word"))] += 1;
                 }
             }
         }
     }
-    assert!(refused > 4 * 8 * 40 * 7, "only {refused}");
+    assert!(seen[0] > 100_000 && seen[1] > 1_000, "{seen:?}");
+}
+
+/// The last admission at another time, or of another on-time, and another length, the words as they were.
+#[test]
+fn words_that_stay_are_read_or_refused_with_9() {
+    let mut seen = [0; 2];
+    for profile in PROFILES {
+        for state in ledger_states(profile).iter().map(raw) {
+            let (time, at, ontime) = (state.clock.time, state.last.at, state.last.ontime);
+            let mut bend = |change: &dyn Fn(&mut sys::State)| {
+                let mut bent = state;
+                change(&mut bent);
+                seen[usize::from(hold_alike(&bent, &"kept words"))] += 1;
+            };
+            for by in [1, 7, 8, 24_992, 24_993, 25_000, 999_999, 1_000_000] {
+                bend(&|s| s.last.at = at.wrapping_add(by));
+                bend(&|s| s.last.at = at.wrapping_sub(by));
+                bend(&|s| s.last.at = time.wrapping_sub(by));
+            }
+            for at in [0, time, 1 << 32, 1 << 63, u64::MAX] {
+                bend(&|s| s.last.at = at);
+            }
+            for ontime in [0, 1, ontime + 1, 4_095, 4_096, ontime + 4_096, u32::MAX] {
+                bend(&|s| s.last.ontime = ontime);
+            }
+            bend(&|s| s.last = sys::Last::default());
+            for len in (0..=42).chain([255, 1 << 32, 1 << 63, u64::MAX]) {
+                bend(&|s| s.rows.ledger.len = len);
+            }
+        }
+    }
+    assert!(seen[0] > 1_000 && seen[1] > 100, "{seen:?}");
+}
+
+/// Holds every call to the reference, or to 9. Whether the state is sound.
+fn hold_alike(state: &sys::State, origin: &dyn std::fmt::Display) -> bool {
+    let stamp = state.clock.stamp;
+    let calls = calls_at(state.profile, stamp.wrapping_add(1_000));
+    let held = calls.iter().map(|call| hold_any(state, call, origin));
+    let sound = held.filter(|sound| *sound).count() == calls.len();
+    if !sound {
+        hold_no_state_burst(state, stamp, origin);
+    }
+    sound
+}
+
+/// What is sound of a full ledger, apart from the reference: forty of 1 µs, 25,000 µs apart, the newest 7 µs ago.
+#[test]
+fn words_of_a_full_ledger_by_example() {
+    let admissions = row(40, 25_000, 1, TIME - 7);
+    for profile in PROFILES {
+        let full = raw(&base(profile, 2).with_admissions(&admissions));
+        let slots = full.rows.ledger.slots;
+        let due = (0..40).rev().map(|n| word(25_000 * n, 1));
+        assert!(slots.iter().copied().eq(due), "{slots:?}");
+        let is_sound = |change: &dyn Fn(&mut sys::State)| {
+            let mut bent = full;
+            change(&mut bent);
+            hold_alike(&bent, &"a full ledger")
+        };
+        assert!(is_sound(&|_| {}));
+        // All admissions move with the last one: to now, and until the oldest is a second old.
+        assert!(is_sound(&|s| s.last.at += 7));
+        assert!(!is_sound(&|s| s.last.at += 8));
+        assert!(is_sound(&|s| s.last.at -= 24_992));
+        assert!(!is_sound(&|s| s.last.at -= 24_993));
+        // The oldest may be older, up to 999,999 µs; any other would come too near to the one before.
+        assert!(is_sound(&|s| s.rows.ledger.slots[0] += word(1, 0)));
+        assert!(is_sound(&|s| s.rows.ledger.slots[0] += word(24_992, 0)));
+        assert!(!is_sound(&|s| s.rows.ledger.slots[0] += word(24_993, 0)));
+        for place in 0..40 {
+            if place > 0 {
+                assert!(!is_sound(&|s| s.rows.ledger.slots[place] += word(1, 0)));
+            }
+            if place < 39 {
+                assert!(!is_sound(&|s| s.rows.ledger.slots[place] -= word(1, 0)));
+                assert!(is_sound(&|s| s.rows.ledger.slots[place] += 1));
+            }
+            assert!(!is_sound(&|s| s.rows.ledger.slots[place] -= 1));
+            let longest = rules::on_time_max(profile).unwrap();
+            assert!(!is_sound(&|s| s.rows.ledger.slots[place] += longest));
+        }
+        // The newest is the last admission.
+        assert!(!is_sound(&|s| s.rows.ledger.slots[39] += 1));
+        assert!(!is_sound(&|s| s.last.ontime += 1));
+        assert!(is_sound(&|s| {
+            s.rows.ledger.slots[39] += 1;
+            s.last.ontime += 1;
+        }));
+        assert!(!is_sound(&|s| s.rows.ledger.len = 39));
+        assert!(!is_sound(&|s| {
+            s.rows.ledger.len = 39;
+            s.rows.ledger.slots[39] = 0;
+        }));
+    }
+}
+
+/// No word says more than there was before the last admission.
+#[test]
+fn nothing_was_admitted_before_the_make() {
+    for profile in PROFILES {
+        for many in 1..=39 {
+            let last = 25_000 * many;
+            let mut state = fresh(profile, 0, 77);
+            state.time = last;
+            let mut state = raw(&state.with_admissions(&row(many + 1, 25_000, 1, last)));
+            assert_eq!(state.rows.ledger.slots[0], word(last as u32, 1));
+            assert!(hold_alike(&state, &"the first at 0"));
+            state.rows.ledger.slots[0] += word(1, 0);
+            assert_eq!(read_state(&state), None);
+            assert!(!hold_alike(&state, &"the first before 0"));
+        }
+    }
+}
+
+/// Past the length no word stands.
+#[test]
+fn stray_words_are_refused_with_9() {
+    for profile in PROFILES {
+        for many in 0..40 {
+            let state = base(profile, 2).with_admissions(&row(many, 25_000, 1, TIME));
+            for place in many as usize..40 {
+                for stray in [1, 4_095, 4_096, word(25_000, 1), 1 << 31, u32::MAX] {
+                    let mut state = raw(&state);
+                    state.rows.ledger.slots[place] = stray;
+                    hold_all_calls(&state, &format_args!("{stray} in place {place} of {many}"));
+                }
+            }
+        }
+    }
 }
 
 #[test]
@@ -345,6 +568,7 @@ fn one_broken_rule_is_refused_with_9() {
     let mut seen = BTreeMap::new();
     for (rule, state) in broken_states() {
         assert_eq!(broken_rules(&state), [rule], "{state:?}");
+        assert_eq!(read_state(&raw(&state)), Some(state));
         hold_all_calls(&raw(&state), &format_args!("{rule}: {state:?}"));
         *seen.entry(rule).or_insert(0) += 1;
     }
@@ -394,7 +618,7 @@ fn flags_above_1_are_refused_with_9() {
 /// The state of a refused make, and states of bytes that are all the same.
 #[test]
 fn states_of_no_sense_are_refused_with_9() {
-    let refused = sys::presscurlew_make(0, sys::DROP_OLDEST, 5);
+    let refused = sys::presscurlew_make(0, sys::DROP_OLDEST, sys::Levels::NONE, 5);
     assert_eq!(refused.state, sys::State::default());
     hold_all_calls(&refused.state, &"the all-zero state");
     let mut state = raw(&State::default());
@@ -410,10 +634,19 @@ fn states_of_no_sense_are_refused_with_9() {
             len: u64::from(fill),
             slots: [packet; 5],
         }; 4];
-        state.ledger = sys::Ledger {
+        state.rows.ledger = sys::Ledger {
             len: u64::from(fill),
-            ats: [u64::from(fill); 40],
-            ontimes: [fill; 40],
+            slots: [fill; 40],
+        };
+        state.rows.loads = sys::Loads {
+            len: u64::from(fill),
+            slots: [fill; 50],
+        };
+        state.levels = sys::Levels {
+            len: u64::from(fill),
+            wait: fill,
+            above: [fill; 8],
+            waits: [fill; 8],
         };
         state.profile = fill;
         state.oldway = fill;

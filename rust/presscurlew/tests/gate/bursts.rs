@@ -4,8 +4,9 @@
 
 use crate::broken_states::broken_states;
 use crate::help::{
-    archive_burst, archive_singles, edge_or, gates, hold, hold_burst, offer_of, raw, Answer, Burst,
-    Call, ACCEPTED_MOST, BLANK, EDGE_LIFETIMES, EDGE_STEPS, PROFILES, TIME_END, WAYS, WHEN_FULL,
+    archive_burst, archive_singles, edge_or, fresh, gate_of, gates, hold, hold_burst, offer_of,
+    raw, Answer, Burst, Call, ACCEPTED_MOST, BLANK, EDGE_LIFETIMES, EDGE_STEPS, PROFILES, TIME_END,
+    WAYS, WHEN_FULL,
 };
 use crate::refusals::late;
 use crate::sound_states::sound_state;
@@ -69,7 +70,7 @@ fn states() -> Vec<sys::State> {
             flagged.last.admitted = 2;
             states.extend([state, unsound, flagged]);
         }
-        states.push(raw(&State::fresh(profile, way, 0)));
+        states.push(raw(&fresh(profile, way, 0)));
         states.push(raw(&sound_state(&mut rng, profile)));
     }
     states
@@ -144,7 +145,7 @@ fn every_priority_and_every_on_time() {
             row.0.stamp = stamp;
         }
         let (records, answers): (Vec<_>, Vec<_>) = rows.into_iter().unzip();
-        hold_answers(&State::fresh(profile, way, 0), &records, &answers);
+        hold_answers(&fresh(profile, way, 0), &records, &answers);
     }
 }
 
@@ -158,7 +159,7 @@ fn a_record_meets_what_those_before_it_left() {
         };
         let mut records = vec![short(0); 6];
         records.extend([short(999), short(1_000), short(999)]);
-        let fresh = State::fresh(profile, way, 0);
+        let fresh = fresh(profile, way, 0);
         if way == sys::DROP_OLDEST {
             let next = hold_answers(&fresh, &records, &[0, 0, 0, 0, 0, 0, 0, 0, 2]);
             let Counts {
@@ -289,7 +290,7 @@ pub fn any_records(rng: &mut Rng, many: usize, state: &State) -> Vec<Record> {
 fn any_state(rng: &mut Rng, profile: u32, broken: &[(&str, State)]) -> State {
     let way = rng.pick(&WAYS);
     match rng.below(6) {
-        0 => State::fresh(profile, way, rng.next_u32()),
+        0 => fresh(profile, way, rng.next_u32()),
         1 => late(profile, way, 5),
         2 => late(profile, way, ACCEPTED_MOST - rng.below(4)),
         3 => broken[rng.below(broken.len() as u64) as usize].1,
@@ -372,7 +373,7 @@ fn runs_with_bursts() {
     for (profile, way) in gates() {
         let mut rng = Rng::new(0xb045a + u64::from(profile));
         let start = rng.next_u32();
-        let (mut state, mut book) = (State::fresh(profile, way, start), Book::new(profile, start));
+        let (mut state, mut book) = (fresh(profile, way, start), Book::new(profile, start));
         let mut sent = 0;
         for index in 0..15_000 {
             let origin = format!("profile {profile}, way {way}, turn {index}");
@@ -527,9 +528,9 @@ fn a_gate_takes_bursts_as_single_offers() {
     for (profile, way) in gates() {
         let mut rng = Rng::new(0xb045e + u64::from(profile));
         let (start, way) = (rng.next_u32(), WHEN_FULL[way as usize]);
-        let mut bursting = Gate::new(profile, way, start).unwrap();
-        let mut heapless = Gate::new(profile, way, start).unwrap();
-        let mut single = Gate::new(profile, way, start).unwrap();
+        let mut bursting = gate_of(profile, way, start);
+        let mut heapless = gate_of(profile, way, start);
+        let mut single = gate_of(profile, way, start);
         for index in 0..10_000 {
             let (mut offers, mut expected) = (vec![], vec![]);
             for _ in 0..rng.below(25) {

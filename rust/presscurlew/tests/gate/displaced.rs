@@ -2,11 +2,12 @@
 //! due stands here, apart from the reference.
 
 use crate::help::{
-    archive, archive_burst, gates, hold, raw_reply, Answer, Call, ACCEPTED_MOST, PROFILES,
+    archive, archive_burst, fresh, gate_of, gates, hold, raw, raw_reply, word, Answer, Call,
+    ACCEPTED_MOST, PROFILES,
 };
 use crate::safe::polled;
 use crate::sound_states::sound_state;
-use presscurlew::{sys, Gate, Offer, Packet, WhenFull};
+use presscurlew::{sys, Offer, Packet, WhenFull};
 use reference::book::Book;
 use reference::rng::Rng;
 use reference::state::State;
@@ -26,15 +27,15 @@ fn waiting(priority: u32, place: u32) -> Packet {
 
 /// A state at 1 s with four full queues, something admitted, and these counts of what has left.
 fn full(profile: u32, way: u32) -> sys::State {
-    let mut state = sys::presscurlew_make(profile, way, 500).state;
+    let mut state = raw(&fresh(profile, way, 500));
     state.clock.time = NOW;
     state.last = sys::Last {
         at: NOW - 3,
         ontime: 7,
         admitted: 1,
     };
-    state.ledger.len = 1;
-    (state.ledger.ats[0], state.ledger.ontimes[0]) = (NOW - 3, 7);
+    state.rows.ledger.len = 1;
+    state.rows.ledger.slots[0] = word(0, 7);
     for (priority, queue) in (0..).zip(&mut state.queues) {
         queue.len = 5;
         queue.slots = [0, 1, 2, 3, 4].map(|place| waiting(priority, place));
@@ -288,7 +289,7 @@ fn ways_differ_in_full_queues_alone() {
 fn none_is_displaced_before_the_fifth_after_it() {
     for profile in PROFILES {
         let mut rng = Rng::new(0xd15c + u64::from(profile));
-        let mut gate = Gate::new(profile, WhenFull::DropOldest, 0).unwrap();
+        let mut gate = gate_of(profile, WhenFull::DropOldest, 0);
         let mut book = Book::new(profile, 0);
         let mut stamp = 0;
         for _ in 0..50_000 {

@@ -1,6 +1,6 @@
 //! Profile 4: the wait goes by the latest load alone. Numbers that are due stand here, apart from the reference.
 
-use crate::help::{hold, raw, Answer, Call, PROFILES};
+use crate::help::{fresh, hold, raw, Answer, Call, PROFILES};
 use crate::runs::made;
 use presscurlew::sys;
 use reference::book::Book;
@@ -111,7 +111,7 @@ fn the_latest_load_is_that_of_the_last_sample_taken() {
             let tuning = raw(&next).tuning;
             assert_eq!(tuning.latest, due, "{busy} of {probes}, profile {profile}");
             if profile == 4 {
-                let fresh = sys::presscurlew_make(4, sys::DROP_OLDEST, 0).state.tuning;
+                let fresh = raw(&fresh(4, sys::DROP_OLDEST, 0)).tuning;
                 assert_eq!(
                     tuning,
                     sys::Tuning {

@@ -2,19 +2,22 @@
 
 use std::fmt::Display;
 
-use presscurlew::{sys, Offer, WhenFull};
+use presscurlew::{sys, Gate, Level, Offer, WhenFull};
 use reference::burst;
 use reference::gate;
+use reference::levels::{Levels, Loads};
 use reference::log::{Record, RECORD_BYTES};
 use reference::rng::Rng;
 use reference::rules;
-use reference::state::{Counts, Ledger, Packet, Queue, State};
+use reference::state::{sound, Admission, Counts, Ledger, Packet, Queue, State};
 use reference::writer;
 
 pub use reference::gate::{Answer, Call};
 pub use reference::log::LogCall;
 
-pub const PROFILES: [u32; 4] = [1, 2, 3, 4];
+pub const PROFILES: [u32; 5] = [1, 2, 3, 4, 5];
+/// Those that a log can say: no record has room for profile 5's list.
+pub const LOGGED: [u32; 4] = [1, 2, 3, 4];
 /// What a gate does when a queue is full.
 pub const WAYS: [u32; 2] = [sys::DROP_OLDEST, sys::REFUSE_NEW];
 /// The same, as `Gate` has it.
@@ -24,6 +27,44 @@ pub const WHEN_FULL: [WhenFull; 2] = [WhenFull::DropOldest, WhenFull::RefuseNew]
 pub fn gates() -> impl Iterator<Item = (u32, u32)> {
     let profiles = PROFILES.into_iter();
     profiles.flat_map(|profile| WAYS.map(|way| (profile, way)))
+}
+
+/// A list of levels, up to 4, for profile 5; the others look at none.
+pub fn levels_of(profile: u32) -> Levels {
+    let listed = [
+        (300_000, 100_000),
+        (400_000, 200_000),
+        (500_000, 400_000),
+        (650_000, 1_000_000),
+    ];
+    match profile {
+        5 => Levels::of(50_000, &listed),
+        _ => Levels::default(),
+    }
+}
+
+/// A fresh state of the reference, in profile 5 with that list.
+pub fn fresh(profile: u32, way: u32, stamp: u32) -> State {
+    let (state, answer) = gate::make(profile, way, &levels_of(profile), stamp);
+    assert_eq!(answer, Answer::Ready, "profile {profile}, way {way}");
+    state
+}
+
+/// A `Gate` that is fresh, in profile 5 with that list.
+pub fn gate_of(profile: u32, way: WhenFull, stamp: u32) -> Gate {
+    let gate = match profile {
+        5 => {
+            let list = levels_of(profile);
+            let level = |(above, wait): &(u32, u32)| Level {
+                above: *above,
+                wait: *wait,
+            };
+            let levels: Vec<Level> = list.listed().iter().map(level).collect();
+            Gate::first_edition(list.wait, &levels, way, stamp)
+        }
+        _ => Gate::new(profile, way, stamp),
+    };
+    gate.expect("a good profile, and a good list")
 }
 
 pub const TIME_END: u64 = 1_000_000_000_000_000;
@@ -117,19 +158,96 @@ fn raw_queue(queue: &Queue) -> sys::Queue {
     }
 }
 
-fn raw_ledger(ledger: &Ledger) -> sys::Ledger {
-    sys::Ledger {
+/// A word of the archive's ledger: made so long before the last admission, with this on-time.
+pub fn word(age: u32, ontime: u32) -> u32 {
+    assert!(age < 1 << 20 && ontime < 1 << 12, "{age}, {ontime}");
+    age << 12 | ontime
+}
+
+/// How long before the last admission a word says that one was made.
+pub fn age_of(word: u32) -> u32 {
+    word >> 12
+}
+
+/// The on-time that a word says.
+pub fn ontime_of(word: u32) -> u32 {
+    word & 0xfff
+}
+
+/// The ledger in words, where the last admission was made at `last`. There is none for one that was made later, or too
+/// long before, or with too long an on-time. What stands past the length is no admission: its time goes for an age.
+fn raw_ledger(ledger: &Ledger, last: u64) -> Option<sys::Ledger> {
+    let mut raw = sys::Ledger {
         len: ledger.len,
-        ats: ledger.slots.map(|admission| admission.at),
-        ontimes: ledger.slots.map(|admission| admission.ontime),
+        ..sys::Ledger::default()
+    };
+    let held = ledger.held().len();
+    for (place, &Admission { at, ontime }) in ledger.slots.iter().enumerate() {
+        let age = if place < held {
+            last.checked_sub(at)?
+        } else {
+            at
+        };
+        if age >= 1 << 20 || ontime >= 1 << 12 {
+            return None;
+        }
+        raw.slots[place] = word(age as u32, ontime);
+    }
+    Some(raw)
+}
+
+/// The ledger that words say. There is none where a word says more than there was before the last admission.
+fn read_ledger(raw: &sys::Ledger, last: u64) -> Option<Ledger> {
+    let mut ledger = Ledger {
+        len: raw.len,
+        ..Ledger::default()
+    };
+    let held = ledger.held().len();
+    for (place, &word) in raw.slots.iter().enumerate() {
+        let age = u64::from(age_of(word));
+        ledger.slots[place] = Admission {
+            at: if place < held {
+                last.checked_sub(age)?
+            } else {
+                age
+            },
+            ontime: ontime_of(word),
+        };
+    }
+    Some(ledger)
+}
+
+/// A list of the reference as the archive has it.
+pub fn raw_levels(levels: &Levels) -> sys::Levels {
+    sys::Levels {
+        len: levels.len,
+        wait: levels.wait,
+        above: levels.above,
+        waits: levels.waits,
+    }
+}
+
+fn raw_loads(loads: &Loads) -> sys::Loads {
+    sys::Loads {
+        len: loads.len,
+        slots: loads.slots,
     }
 }
 
 /// A state of the reference as the archive has it.
 pub fn raw(state: &State) -> sys::State {
-    sys::State {
+    raw_if(state).unwrap_or_else(|| panic!("a ledger without words: {state:?}"))
+}
+
+/// The same, if there are words for its ledger. For that of a sound state there are.
+pub fn raw_if(state: &State) -> Option<sys::State> {
+    Some(sys::State {
         queues: state.queues.each_ref().map(raw_queue),
-        ledger: raw_ledger(&state.ledger),
+        levels: raw_levels(&state.levels),
+        rows: sys::Rows {
+            ledger: raw_ledger(&state.ledger, state.at)?,
+            loads: raw_loads(&state.loads),
+        },
         clock: sys::Clock {
             time: state.time,
             stamp: state.stamp,
@@ -151,7 +269,80 @@ pub fn raw(state: &State) -> sys::State {
         profile: state.profile,
         oldway: state.oldway,
         live: u32::from(state.live),
+    })
+}
+
+fn read_packet(packet: &sys::Packet) -> Packet {
+    Packet {
+        id: packet.id,
+        priority: packet.priority,
+        ontime: packet.ontime,
+        lifetime: packet.lifetime,
+        arrival: packet.arrival,
     }
+}
+
+fn read_queue(queue: &sys::Queue) -> Queue {
+    Queue {
+        len: queue.len,
+        slots: queue.slots.each_ref().map(read_packet),
+    }
+}
+
+fn read_flag(flag: u32) -> Option<bool> {
+    match flag {
+        0 => Some(false),
+        1 => Some(true),
+        _ => None,
+    }
+}
+
+/// A state of the archive as the reference has it, which says whether it is sound. None is where a flag is above 1, or
+/// a word of the ledger says more than there was before the last admission.
+pub fn read_state(state: &sys::State) -> Option<State> {
+    let sys::State {
+        levels,
+        rows: sys::Rows { loads, .. },
+        clock,
+        last,
+        counts,
+        tuning,
+        ..
+    } = *state;
+    Some(State {
+        live: read_flag(state.live)?,
+        profile: state.profile,
+        oldway: state.oldway,
+        stamp: clock.stamp,
+        time: clock.time,
+        level: tuning.level,
+        duty: tuning.duty,
+        smoothed: tuning.smoothed,
+        kept: tuning.kept,
+        haskept: read_flag(tuning.pairing)?,
+        latest: tuning.latest,
+        any: read_flag(last.admitted)?,
+        at: last.at,
+        ontime: last.ontime,
+        ledger: read_ledger(&state.rows.ledger, last.at)?,
+        loads: Loads {
+            len: loads.len,
+            slots: loads.slots,
+        },
+        levels: Levels {
+            len: levels.len,
+            wait: levels.wait,
+            above: levels.above,
+            waits: levels.waits,
+        },
+        queues: state.queues.each_ref().map(read_queue),
+        counts: Counts {
+            accepted: counts.accepted,
+            sent: counts.sent,
+            expired: counts.expired,
+            displaced: counts.displaced,
+        },
+    })
 }
 
 /// Counts of the reference as the archive has them.
@@ -237,6 +428,22 @@ pub fn hold_no_state(state: &sys::State, call: &Call, origin: &dyn Display) {
         reply: raw_reply(&Answer::Refused(9)),
     };
     assert_eq!(archive(*state, call), expected, "{origin}: {call:?}");
+}
+
+/// Holds a call on any state of the archive to the reference: to its answer and next state where the state is sound, and
+/// to 9 where it isn't. Whether it is.
+pub fn hold_any(state: &sys::State, call: &Call, origin: &dyn Display) -> bool {
+    match read_state(state).filter(sound) {
+        Some(read) => {
+            assert_eq!(raw(&read), *state, "{origin}: read as {read:?}");
+            hold(&read, call, origin);
+            true
+        }
+        None => {
+            hold_no_state(state, call, origin);
+            false
+        }
+    }
 }
 
 /// What no answer byte of a burst is.
@@ -368,6 +575,7 @@ pub fn archive_write(call: &LogCall, log: &mut [u8], at: usize) -> u32 {
             profile,
             oldway,
             stamp,
+            ..
         } => sys::write_make(profile, oldway, stamp, log, at),
         LogCall::On(Call::SampleWords {
             probes,

@@ -9,6 +9,7 @@
 //! - `refusals`: which refusal comes first, and that it changes nothing
 //! - `samples`: the busy count of words, and the load
 //! - `harmonised`: profile 4, which goes by the latest load
+//! - `first_edition`: profile 5, which goes by a list of levels and its last loads
 //! - `sample_log`: the requirement's own log
 //! - `safe`: what `Gate` makes of the archive's calls
 //! - `writer`: calls written to a log
@@ -20,6 +21,7 @@
 mod broken_states;
 mod bursts;
 mod displaced;
+mod first_edition;
 mod harmonised;
 mod help;
 mod layout;

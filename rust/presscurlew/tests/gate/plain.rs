@@ -3,9 +3,12 @@
 
 use std::fmt::Display;
 
-use crate::help::{archive, archive_burst, raw_reply, Answer, Burst, Call, BLANK};
+use crate::help::{
+    archive, archive_burst, levels_of, raw_levels, raw_reply, Answer, Burst, Call, BLANK,
+};
 use plainhost::{Line, State, Turn, PLACES};
 use presscurlew::sys::{self, Packet};
+use reference::levels::Levels;
 use reference::log::{Record, RECORD_BYTES};
 use reference::rng::Rng;
 
@@ -40,9 +43,14 @@ pub fn plain(state: State, call: &Call) -> Turn {
 
 /// Holds a make of the plain engine to the gate's.
 pub fn made(profile: u32, way: u32, stamp: u32) -> State {
-    let gate = sys::presscurlew_make(profile, way, stamp);
-    let turn = plainhost::presscurlew_plain_make(profile, way, stamp);
-    let origin = format!("make({profile}, {way}, {stamp})");
+    made_with(profile, way, &levels_of(profile), stamp)
+}
+
+/// The same with a list of levels, good or bad.
+pub fn made_with(profile: u32, way: u32, list: &Levels, stamp: u32) -> State {
+    let gate = sys::presscurlew_make(profile, way, raw_levels(list), stamp);
+    let turn = plainhost::presscurlew_plain_make(profile, way, raw_levels(list), stamp);
+    let origin = format!("make({profile}, {way}, {list:?}, {stamp})");
     assert_eq!(turn.reply, gate.reply, "{origin}");
     assert_eq!(turn.state.parted(), Some(gate.state), "{origin}");
     turn.state

@@ -4,15 +4,15 @@
 
 use crate::bursts::{any_records, bytes};
 use crate::help::{
-    calls_at, hold, hold_burst, raw, raw_reply, Answer, ACCEPTED_MOST, PROFILES, WAYS,
+    calls_at, hold, hold_burst, raw, raw_reply, read_state, Answer, ACCEPTED_MOST, PROFILES, WAYS,
 };
 use crate::plain::{self, hold_alike, hold_alike_burst};
-use crate::runs::{self, Caller, Place, Tally, STYLES};
+use crate::runs::{self, run_list, Caller, Place, Tally, STYLES};
 use plainhost::State;
 use presscurlew::sys;
 use reference::log::RECORD_BYTES;
 use reference::rng::Rng;
-use reference::state;
+use reference::state::{self, sound};
 
 /// A number of a state, to be changed.
 enum Number<'a> {
@@ -27,6 +27,8 @@ fn numbers(state: &mut State) -> Vec<Number<'_>> {
     let State {
         line,
         ledger,
+        loads,
+        levels,
         clock,
         last,
         counts,
@@ -35,7 +37,13 @@ fn numbers(state: &mut State) -> Vec<Number<'_>> {
         oldway,
         live,
     } = state;
-    let mut all = vec![Wide(&mut line.len), Wide(&mut ledger.len)];
+    let lengths = [
+        &mut line.len,
+        &mut ledger.len,
+        &mut loads.len,
+        &mut levels.len,
+    ];
+    let mut all: Vec<Number> = lengths.map(Wide).into();
     for packet in &mut line.packets {
         let sys::Packet {
             id,
@@ -47,8 +55,11 @@ fn numbers(state: &mut State) -> Vec<Number<'_>> {
         all.extend([id, priority, ontime, lifetime].map(Narrow));
         all.push(Wide(arrival));
     }
-    all.extend(ledger.ats.iter_mut().map(Wide));
-    all.extend(ledger.ontimes.iter_mut().map(Narrow));
+    all.extend(ledger.slots.iter_mut().map(Narrow));
+    all.extend(loads.slots.iter_mut().map(Narrow));
+    all.push(Narrow(&mut levels.wait));
+    let listed = levels.above.iter_mut().chain(&mut levels.waits);
+    all.extend(listed.map(Narrow));
     all.extend([&mut clock.time, &mut last.at].map(Wide));
     all.extend([&mut clock.stamp, &mut last.ontime, &mut last.admitted].map(Narrow));
     let sys::Counts {
@@ -105,10 +116,16 @@ fn damaged(state: &State, rng: &mut Rng) -> State {
 /// Every kind of call, and a burst, on a damaged copy of a state. `asked` counts the calls, and apart those that got 9.
 fn ask_damaged(state: &State, rng: &mut Rng, place: &Place, asked: &mut [u64; 2]) {
     let state = damaged(state, rng);
+    let read = state.parted().and_then(|parts| read_state(&parts));
+    let is_sound = read.is_some_and(|state| sound(&state));
     let stamp = state.clock.stamp.wrapping_add(rng.below(200_000) as u32);
     for call in calls_at(place.profile, stamp) {
         let turn = hold_alike(&state, &call, &format_args!("{place}, damaged"));
         let unsound = turn.reply.kind == sys::REFUSED && turn.reply.number == 9;
+        assert_eq!(
+            unsound, !is_sound,
+            "{place}, damaged: {call:?} on {state:?}"
+        );
         asked[usize::from(unsound)] += 1;
     }
     let records = random_bytes(rng, 3 * RECORD_BYTES);
@@ -142,10 +159,7 @@ fn any_burst(rng: &mut Rng, state: &state::State) -> (Vec<u8>, usize) {
 /// One run on both archives and on the reference, which `start` has come to.
 fn run(mut place: Place, start: (state::State, State), tally: &mut Tally, asked: &mut [u64; 2]) {
     let (mut state, mut plain) = start;
-    let mut caller = Caller {
-        rng: Rng::new(place.seed),
-        style: place.style,
-    };
+    let mut caller = Caller::new(place.seed, place.style);
     for call in 0..CALLS {
         place.call = call;
         if caller.rng.one_in(12) {
@@ -160,6 +174,7 @@ fn run(mut place: Place, start: (state::State, State), tally: &mut Tally, asked:
             let turn = hold_alike(&plain, &call, &place);
             assert_eq!(turn.reply, raw_reply(&answer), "{place}: on {state:?}");
             tally.count(&answer);
+            tally.note_move(state.level, next.level);
             (state, plain) = (next, turn.state);
         }
         assert_eq!(plain.parted(), Some(raw(&state)), "{place}");
@@ -187,9 +202,10 @@ fn runs_of(profile: u32) {
                     call: 0,
                 };
                 let stamp = (place.seed as u32).wrapping_mul(0x9E37_79B9);
+                let list = run_list(place.seed);
                 let start = (
-                    runs::made(profile, way, stamp),
-                    plain::made(profile, way, stamp),
+                    runs::made_with(profile, way, &list, stamp),
+                    plain::made_with(profile, way, &list, stamp),
                 );
                 run(place, start, &mut tally, &mut asked);
             }
@@ -203,6 +219,9 @@ fn runs_of(profile: u32) {
         assert!(full[way as usize] > 1_000, "way {way}: {tally:?}");
         // Of the damaged states some are sound still.
         assert!(asked.iter().all(|&count| count > 5_000), "{asked:?}");
+        if profile == 5 {
+            tally.hold_moves(0);
+        }
     }
 }
 
@@ -224,6 +243,11 @@ fn both_archives_in_profile_3() {
 #[test]
 fn both_archives_in_profile_4() {
     runs_of(4);
+}
+
+#[test]
+fn both_archives_in_profile_5() {
+    runs_of(5);
 }
 
 /// Runs that begin with few offers left, and soon with none.

@@ -304,7 +304,7 @@ fn each_other_rule_broken() {
 /// The state of a refused make, and states of numbers that are all the same.
 #[test]
 fn states_of_no_sense_are_refused_with_9() {
-    let refused = plainhost::presscurlew_plain_make(0, sys::DROP_OLDEST, 5);
+    let refused = plainhost::presscurlew_plain_make(0, sys::DROP_OLDEST, sys::Levels::NONE, 5);
     assert_eq!(refused.state, State::default());
     hold_all_calls(&refused.state, &"the all-zero state");
     for fill in [1, 2, 5, 20, 255, u32::MAX] {

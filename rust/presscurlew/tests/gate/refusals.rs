@@ -2,7 +2,7 @@
 //! numbers stand here as a table, apart from the reference.
 
 use crate::help::{
-    archive, first_busy, gates, raw, raw_reply, Answer, Call, ACCEPTED_MOST, TIME_END,
+    archive, first_busy, fresh, gates, raw, raw_reply, Answer, Call, ACCEPTED_MOST, TIME_END,
 };
 use presscurlew::sys;
 use reference::rules;
@@ -18,7 +18,7 @@ pub fn late(profile: u32, way: u32, accepted: u64) -> State {
         lifetime: 60_000_000,
         arrival: time,
     };
-    let mut state = State::fresh(profile, way, u32::MAX - 10);
+    let mut state = fresh(profile, way, u32::MAX - 10);
     state.time = time;
     state.queues[1] = Queue::of(&[packet; 5]);
     state.with_accepted(accepted)
@@ -174,7 +174,7 @@ fn polls_are_refused_in_order() {
 #[test]
 fn full_until_one_expires() {
     for (profile, way) in gates() {
-        let mut state = State::fresh(profile, way, 0);
+        let mut state = fresh(profile, way, 0);
         let packet = Packet {
             id: 5,
             priority: 2,

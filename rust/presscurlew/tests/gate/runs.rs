@@ -3,12 +3,15 @@
 use std::fmt;
 
 use crate::help::{
-    hold, random_count, random_words, raw, raw_reply, Answer, Call, ACCEPTED_MOST, EDGE_LIFETIMES,
-    EDGE_ONTIMES, EDGE_PRIORITIES, EDGE_STEPS, PROFILES, TIME_END, WAYS,
+    first_busy, hold, levels_of, random_count, random_words, raw, raw_levels, raw_reply, Answer,
+    Call, ACCEPTED_MOST, EDGE_LIFETIMES, EDGE_ONTIMES, EDGE_PRIORITIES, EDGE_STEPS, PROFILES,
+    TIME_END, WAYS,
 };
 use presscurlew::sys;
 use reference::book::Book;
 use reference::gate;
+use reference::levels::Levels;
+use reference::lists;
 use reference::rng::Rng;
 use reference::rules;
 use reference::state::State;
@@ -83,14 +86,24 @@ pub const STYLES: [Style; 6] = [
 pub struct Caller {
     pub rng: Rng,
     pub style: Style,
+    /// Profile 5: loads of samples to come, the last one first.
+    planned: Vec<u32>,
 }
 
 impl Caller {
+    pub fn new(seed: u64, style: Style) -> Caller {
+        Caller {
+            rng: Rng::new(seed),
+            style,
+            planned: vec![],
+        }
+    }
+
     pub fn call(&mut self, state: &State) -> Call {
         let stamp = state.stamp.wrapping_add(self.step(state));
         let drawn = self.rng.below(16);
         if drawn < self.style.samples {
-            self.sample(stamp)
+            self.sample(state, stamp)
         } else if drawn < self.style.samples + self.style.offers {
             self.offer(state.profile, stamp)
         } else {
@@ -130,11 +143,46 @@ impl Caller {
         u32::try_from(step).unwrap_or(0)
     }
 
-    fn sample(&mut self, stamp: u32) -> Call {
+    fn sample(&mut self, state: &State, stamp: u32) -> Call {
+        if rules::needs_list(state.profile) && !self.rng.one_in(200) {
+            return self.near_level(&state.levels, stamp);
+        }
         if self.rng.one_in(3) {
             return by_words(&mut self.rng, stamp);
         }
         by_count(&mut self.rng, stamp)
+    }
+
+    /// A sample whose load a level of the list may turn at. The loads come by stretches: without these ten in a row
+    /// would seldom all be high, or fifty low.
+    fn near_level(&mut self, list: &Levels, stamp: u32) -> Call {
+        if self.rng.one_in(12) {
+            // None: it is refused, and the stretch goes on.
+            let (busy, probes) = (1_001, 1_000);
+            return Call::SampleCount {
+                busy,
+                probes,
+                stamp,
+            };
+        }
+        if self.planned.is_empty() {
+            self.planned = lists::loads(list, 200, &mut self.rng);
+        }
+        let load = self.planned.pop().unwrap_or(0);
+        let (busy, probes) = lists::sample_of(load, &mut self.rng);
+        if self.rng.one_in(3) {
+            let words = first_busy(probes, busy);
+            return Call::SampleWords {
+                probes,
+                words,
+                stamp,
+            };
+        }
+        Call::SampleCount {
+            busy,
+            probes,
+            stamp,
+        }
     }
 
     fn offer(&mut self, profile: u32, stamp: u32) -> Call {
@@ -175,15 +223,8 @@ fn by_count(rng: &mut Rng, stamp: u32) -> Call {
 
 /// How long the gate is closed after the last admission, by the reference.
 pub fn closed_for(state: &State) -> u64 {
-    let &State {
-        profile,
-        level,
-        duty,
-        ontime,
-        latest,
-        ..
-    } = state;
-    rules::closed_for(profile, level, duty, ontime, latest).expect("a sound state's numbers")
+    let closed = state.closed_for(state.ontime);
+    closed.expect("a sound state's numbers")
 }
 
 /// How often each answer came.
@@ -195,6 +236,10 @@ pub struct Tally {
     pub closed: u64,
     pub refused: [u64; 12],
     pub displaced: u64,
+    /// How often a level was moved down, and up, and how often so by two or more.
+    pub moves: [u64; 4],
+    /// How often each level was moved to.
+    pub levels: [u64; 9],
 }
 
 impl Tally {
@@ -207,6 +252,22 @@ impl Tally {
             Answer::Closed(_) => self.closed += 1,
             Answer::Refused(number) => self.refused[*number as usize] += 1,
         }
+    }
+
+    pub fn note_move(&mut self, from: u32, to: u32) {
+        if from == to {
+            return;
+        }
+        let (up, far) = (usize::from(to > from), from.abs_diff(to) > 1);
+        self.moves[up] += 1;
+        self.moves[2 + up] += u64::from(far);
+        self.levels[to as usize] += 1;
+    }
+
+    /// In profile 5 each level of a list of eight was moved to, up and down, and by more than one.
+    pub fn hold_moves(&self, least: u64) {
+        let all = self.moves.iter().chain(&self.levels);
+        assert!(all.into_iter().all(|&times| times > least), "{self:?}");
     }
 }
 
@@ -237,25 +298,38 @@ impl fmt::Display for Place {
 
 /// A fresh state, held to the reference.
 pub fn made(profile: u32, way: u32, stamp: u32) -> State {
-    let (state, answer) = gate::make(profile, way, stamp);
-    let turn = sys::presscurlew_make(profile, way, stamp);
+    made_with(profile, way, &levels_of(profile), stamp)
+}
+
+/// The same with a list of levels, good or bad.
+pub fn made_with(profile: u32, way: u32, list: &Levels, stamp: u32) -> State {
+    let (state, answer) = gate::make(profile, way, list, stamp);
+    let turn = sys::presscurlew_make(profile, way, raw_levels(list), stamp);
     let expected = sys::Turn {
         state: raw(&state),
         reply: raw_reply(&answer),
     };
-    assert_eq!(turn, expected, "make({profile}, {way}, {stamp})");
+    assert_eq!(turn, expected, "make({profile}, {way}, {list:?}, {stamp})");
     state
+}
+
+/// The list of a run: a good one of any length, of eight levels if the seed is even, anything past its length. In the
+/// other profiles it makes no difference.
+pub fn run_list(seed: u64) -> Levels {
+    let mut rng = Rng::new(seed);
+    let mut good = lists::good(&mut rng);
+    while seed % 2 == 0 && good.len < 8 {
+        good = lists::good(&mut rng);
+    }
+    lists::littered(&good, &mut rng)
 }
 
 /// One run from a fresh state; the book is kept beside it.
 fn run(mut place: Place, tally: &mut Tally) {
     let Place { profile, way, .. } = place;
-    let mut caller = Caller {
-        rng: Rng::new(place.seed),
-        style: place.style,
-    };
+    let mut caller = Caller::new(place.seed, place.style);
     let stamp = caller.rng.next_u32();
-    let mut state = made(profile, way, stamp);
+    let mut state = made_with(profile, way, &run_list(place.seed), stamp);
     let mut book = Book::new(profile, stamp);
     for call in 0..CALLS {
         place.call = call;
@@ -266,6 +340,7 @@ fn run(mut place: Place, tally: &mut Tally) {
         let kept = counted.and_then(|()| book.compare_ledger(&next.ledger));
         assert_eq!(kept, Ok(()), "{place}: {asked:?} on {state:?}");
         tally.count(&answer);
+        tally.note_move(state.level, next.level);
         state = next;
     }
     assert_eq!(book.time(), state.time, "{place}");
@@ -301,6 +376,9 @@ fn runs(profile: u32) {
         assert!(full[way as usize] > 1_000, "way {way}: {tally:?}");
         assert_eq!(full[1 - way as usize], 0, "way {way}: {tally:?}");
         assert_eq!((tally.refused[9], tally.refused[11]), (0, 0));
+        if profile == 5 {
+            tally.hold_moves(100);
+        }
     }
 }
 
@@ -324,6 +402,11 @@ fn runs_of_profile_4() {
     runs(4);
 }
 
+#[test]
+fn runs_of_profile_5() {
+    runs(5);
+}
+
 /// Runs from states that are fresh but for their counts, with so many offers left: then offers are refused, and
 /// all else goes on.
 #[test]
@@ -339,10 +422,7 @@ fn runs_that_spend_their_offers() {
                 style,
                 call: 0,
             };
-            let mut caller = Caller {
-                rng: Rng::new(seed),
-                style,
-            };
+            let mut caller = Caller::new(seed, style);
             let mut tally = Tally::default();
             let mut state = made(profile, way, 7).with_accepted(ACCEPTED_MOST - left);
             for call in 0..20_000 {
@@ -366,6 +446,7 @@ fn runs_that_reach_the_floor() {
         (2, 1_000_500),
         (3, 1_000_000),
         (4, 1_004_000),
+        (5, 1_001_000),
     ] {
         let mut state = made(profile, sys::DROP_OLDEST, 0);
         let mut asked = vec![];
@@ -376,7 +457,7 @@ fn runs_that_reach_the_floor() {
                 probes,
                 stamp,
             };
-            asked = vec![loud; 4];
+            asked = vec![loud; 10];
         }
         let (priority, lifetime, stamp) = (0, 60_000_000, 0);
         let ontime = rules::on_time_max(profile).unwrap();
@@ -405,7 +486,7 @@ fn runs_that_reach_the_floor() {
     }
 }
 
-/// A make of any profile, way and stamp: only 1 to 4 in a known way are ready, else the all-zero state comes back.
+/// A make of any profile, way and stamp: only 1 to 5 in a known way are ready, else the all-zero state comes back.
 #[test]
 fn makes() {
     let stamps = [0, 1, 1 << 31, u32::MAX];

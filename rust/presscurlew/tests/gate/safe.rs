@@ -1,7 +1,8 @@
 //! `Gate` hands on what the archive answers, and keeps the state.
 
 use crate::help::{
-    random_count, random_words, raw, raw_counts, Answer, Call, EDGE_STEPS, PROFILES, WHEN_FULL,
+    fresh, gate_of, random_count, random_words, raw, raw_counts, Answer, Call, EDGE_STEPS,
+    PROFILES, WHEN_FULL,
 };
 use presscurlew::{Gate, Offer, Packet, Refusal, WhenFull};
 use reference::book::Book;
@@ -114,8 +115,8 @@ fn a_gate_says_what_the_reference_says() {
 fn follow(profile: u32, way: WhenFull) {
     let mut rng = Rng::new(0x5afe + u64::from(profile));
     let stamp = rng.next_u32();
-    let mut gate = Gate::new(profile, way, stamp).unwrap();
-    let (mut state, _) = gate::make(profile, way as u32, stamp);
+    let mut gate = gate_of(profile, way, stamp);
+    let mut state = fresh(profile, way as u32, stamp);
     let mut book = Book::new(profile, stamp);
     for index in 0..100_000 {
         let call = any_call(&mut rng, state.stamp);
@@ -144,10 +145,11 @@ fn ways_have_their_numbers() {
 
 #[test]
 fn bad_profiles_make_no_gate() {
-    for profile in [0, 5, u32::MAX] {
-        for way in WHEN_FULL {
+    for way in WHEN_FULL {
+        for profile in [0, 6, u32::MAX] {
             assert_eq!(Gate::new(profile, way, 0), Err(Refusal::BadProfile));
         }
+        assert_eq!(Gate::new(5, way, 0), Err(Refusal::BadList));
     }
 }
 
@@ -168,13 +170,14 @@ fn refusals_have_the_names_and_numbers_of_the_table() {
         (11, "SPENT"),
         (12, "NO-ROOM"),
         (13, "TORN-LOG"),
+        (15, "BAD-LIST"),
     ];
     for (number, name) in table {
         let refusal = Refusal::from_number(number).unwrap();
         assert_eq!((refusal.number(), refusal.name()), (number, name));
         assert!(refusal.to_string().starts_with(&format!("{name}: ")));
     }
-    for number in [0, 14, 255, u32::MAX] {
+    for number in [0, 14, 16, 255, u32::MAX] {
         assert_eq!(Refusal::from_number(number), None);
     }
 }

@@ -54,7 +54,7 @@ fn line(reply: &sys::Reply) -> String {
 
 #[test]
 fn by_the_archive() {
-    let mut turn = sys::presscurlew_make(2, sys::DROP_OLDEST, 4_294_967_000);
+    let mut turn = sys::presscurlew_make(2, sys::DROP_OLDEST, sys::Levels::NONE, 4_294_967_000);
     let mut lines = vec![line(&turn.reply)];
     let stamp = 4_294_967_100;
     let offers = offers().map(

@@ -12,7 +12,7 @@ const MOST: u32 = 12_500;
 const SOME_PROBES: [u32; 9] = [1, 3, 63, 64, 65, 1_000, 1_024, 12_480, MOST];
 
 fn fresh() -> sys::State {
-    sys::presscurlew_make(3, sys::DROP_OLDEST, 0).state
+    sys::presscurlew_make(3, sys::DROP_OLDEST, sys::Levels::NONE, 0).state
 }
 
 /// Probe k is bit k mod 64 of word k / 64.

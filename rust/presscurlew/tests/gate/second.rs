@@ -5,7 +5,8 @@ use std::collections::VecDeque;
 
 use crate::broken_states::ledger_states;
 use crate::help::{
-    archive, calls_at, first_busy, hold, hold_burst, raw, raw_reply, Answer, Call, PROFILES,
+    archive, calls_at, first_busy, fresh, hold, hold_burst, raw, raw_reply, word, Answer, Call,
+    PROFILES,
 };
 use crate::runs::{closed_for, made};
 use presscurlew::{sys, Gate, Offer, WhenFull};
@@ -23,7 +24,7 @@ const HIGHEST_DUTY: u32 = 30_000_000;
 /// A sound state in which a packet of this on-time waits for long. Admissions are given by their age, the oldest first;
 /// a wait is as short as it can be.
 fn waiting(profile: u32, ontime: u32, ages: &[(u64, u32)]) -> State {
-    let mut state = State::fresh(profile, sys::DROP_OLDEST, STAMP);
+    let mut state = fresh(profile, sys::DROP_OLDEST, STAMP);
     (state.time, state.duty) = (NOW, HIGHEST_DUTY);
     let packet = Packet {
         id: 7,
@@ -155,7 +156,12 @@ fn the_greater_of_wait_and_ageing() {
 /// The wait may be longer than the second: then the ledger is empty, and the last admission closes the gate still.
 #[test]
 fn the_last_admission_outlives_the_ledger() {
-    for (profile, floor) in [(1, 1_001_000), (2, 1_000_500), (4, 1_004_000)] {
+    for (profile, floor) in [
+        (1, 1_001_000),
+        (2, 1_000_500),
+        (4, 1_004_000),
+        (5, 1_001_000),
+    ] {
         let ontime = rules::on_time_max(profile).unwrap();
         for age in [999_999, 1_000_000, floor - 1] {
             let mut state = waiting(profile, 1, &[(age, ontime)]);
@@ -217,8 +223,8 @@ fn crowded(rng: &mut Rng, profile: u32) -> Vec<Admission> {
 #[test]
 fn closed_is_the_smallest_wait() {
     let mut rng = Rng::new(0x5ec0);
-    let mut bound = [0; 5];
-    for _ in 0..10_000 {
+    let mut bound = [0; 6];
+    for _ in 0..15_000 {
         let profile = rng.pick(&PROFILES);
         let most = rules::on_time_max(profile).unwrap();
         let ontime = rng.pick(&[1, most / 2, most, most]);
@@ -241,9 +247,9 @@ fn closed_is_the_smallest_wait() {
         opens_in(&state, left);
         bound[profile as usize] += u32::from(left > wait_left(&state));
     }
-    let due = [0, 100, 0, 500, 500];
+    let due = [0, 100, 0, 500, 500, 100];
     let often = |profile: usize| bound[profile] > due[profile];
-    assert!([1, 3, 4].into_iter().all(often), "{bound:?}");
+    assert!([1, 3, 4, 5].into_iter().all(often), "{bound:?}");
 }
 
 /// A state with three admissions that age after 10,000, 300,000 and 500,000 µs.
@@ -254,16 +260,16 @@ fn three_held(profile: u32) -> State {
     state
 }
 
-/// The ledger with the first so many of three dropped.
-fn dropped(state: &sys::State, many: usize) -> sys::Ledger {
-    let mut ledger = state.ledger;
-    assert_eq!(ledger.len, 3);
-    ledger.len -= many as u64;
-    for place in 0..3 {
-        let from = place + many;
-        let held = from < 3;
-        ledger.ats[place] = if held { state.ledger.ats[from] } else { 0 };
-        ledger.ontimes[place] = if held { state.ledger.ontimes[from] } else { 0 };
+/// When they were made, and their on-times.
+const THREE: [(u64, u32); 3] = [(NOW - 990_000, 9), (NOW - 700_000, 8), (NOW - 500_000, 7)];
+
+/// A ledger of these admissions in words, the newest being the last of all.
+fn in_words(held: &[(u64, u32)]) -> sys::Ledger {
+    let mut ledger = sys::Ledger::default();
+    for (place, &(at, ontime)) in held.iter().enumerate() {
+        let (last, _) = held[held.len() - 1];
+        ledger.slots[place] = word((last - at) as u32, ontime);
+        ledger.len += 1;
     }
     ledger
 }
@@ -287,7 +293,7 @@ fn every_accepted_call_drops_what_has_aged() {
             (2_000_000, 3),
         ] {
             let stamp = STAMP.wrapping_add(step);
-            let due = dropped(&state, many);
+            let due = &THREE[many..];
             let words = first_busy(1_000, 500);
             let (id, priority, ontime, lifetime) = (1, 0, 1, 9);
             for call in [
@@ -313,15 +319,15 @@ fn every_accepted_call_drops_what_has_aged() {
                 for state in [state, idle] {
                     let turn = archive(state, &call);
                     assert_ne!(turn.reply.kind, sys::REFUSED, "{call:?}");
-                    let mut due = due;
+                    let mut due = due.to_vec();
                     if turn.reply.kind == sys::SENT {
-                        let place = due.len as usize;
-                        due.len += 1;
-                        (due.ats[place], due.ontimes[place]) = (NOW + u64::from(step), 1);
+                        // The words of the others now say how long before this one they were made.
+                        due.push((NOW + u64::from(step), 1));
                     } else {
                         assert_eq!(turn.state.last, state.last, "{call:?}");
                     }
-                    assert_eq!(turn.state.ledger, due, "profile {profile}, {call:?}");
+                    let ledger = turn.state.rows.ledger;
+                    assert_eq!(ledger, in_words(&due), "profile {profile}, {call:?}");
                 }
             }
         }
@@ -381,7 +387,7 @@ fn bursts_drop_what_has_aged() {
         assert_eq!((next, answers), (state, vec![10, 5]));
         let good = [record(2, 0, 300_000)];
         let (next, _) = hold_burst(&state, &bytes(&[&bad[..], &good].concat()), 3, &"one taken");
-        assert_eq!(raw(&next).ledger, dropped(&raw(&state), 2));
+        assert_eq!(raw(&next).rows.ledger, in_words(&THREE[2..]));
     }
 }
 
@@ -592,16 +598,11 @@ fn a_gate_keeps_the_second() {
         let sent = matches!(answer, presscurlew::Answer::Sent(_));
         assert_eq!(sent, id < 7);
     }
-    let ledger = &gate.state().ledger;
-    let ats = [0, 133_334, 266_668, 400_002, 533_336, 666_670, 800_004];
-    assert_eq!((ledger.len, &ledger.ats[..7]), (7, &ats[..]));
-    assert_eq!(
-        ledger.ontimes[..8],
-        [4_000, 4_000, 4_000, 4_000, 4_000, 4_000, 4_000, 0]
-    );
+    let one = |at| sys::Admission { at, ontime: 4_000 };
+    let held = [0, 133_334, 266_668, 400_002, 533_336, 666_670, 800_004].map(one);
+    assert!(gate.state().admissions().eq(held));
+    let ledger = in_words(&held.map(|held| (held.at, held.ontime)));
+    assert_eq!((ledger.len, gate.state().rows.ledger), (7, ledger));
     gate.sample_count(0, 1_000, 1_000_000).unwrap();
-    assert_eq!(
-        (gate.state().ledger.len, gate.state().ledger.ats[0]),
-        (6, 133_334)
-    );
+    assert!(gate.state().admissions().eq(held[1..].iter().copied()));
 }

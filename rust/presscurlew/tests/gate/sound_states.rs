@@ -1,11 +1,13 @@
 //! Sound states made field by field. Most are reached by no run: a level in profiles 3 and 4, a duty in profile 1,
 //! queues of packets that expired long ago, any running time beside any stamp, any counts that add up, displaced ones in
-//! a gate that refuses, a ledger that no wait of its profile leads to.
+//! a gate that refuses, a ledger that no wait of its profile leads to, a level of profile 5 that its last loads don't
+//! lead to.
 
 use crate::help::{
     calls_at, edge_or, hold, Answer, Call, ACCEPTED_MOST, EDGE_STEPS, PROFILES, TIME_END, WAYS,
 };
 use reference::ledgers;
+use reference::lists;
 use reference::rng::Rng;
 use reference::rules;
 use reference::state::{sound, Packet, Queue, State};
@@ -71,6 +73,9 @@ pub fn sound_state(rng: &mut Rng, profile: u32) -> State {
     }
     if profile == 4 {
         state.latest = edge_or(rng, &EDGE_LOADS, FULL_LOAD);
+    }
+    if profile == 5 {
+        state = lists::given(state, rng);
     }
     for priority in 0..4 {
         if !rng.one_in(3) {

@@ -5,13 +5,17 @@ use crate::help::{
     EDGE_LIFETIMES, EDGE_PROBES,
 };
 use presscurlew::{sys, Offer};
+use reference::levels::Levels;
+use reference::lists;
 use reference::log::{read, Record, RECORD_BYTES};
 use reference::rng::Rng;
 
 fn make(profile: u32, oldway: u32, stamp: u32) -> LogCall {
+    let levels = Levels::default();
     LogCall::Make {
         profile,
         oldway,
+        levels,
         stamp,
     }
 }
@@ -116,6 +120,10 @@ fn numbers() -> Vec<(LogCall, u32)> {
         (0, 0, 0),
         (77, 1, 0),
         (255, 1, 0),
+        (4, 0, 0),
+        (5, 0, 1),
+        (5, 1, 1),
+        (6, 1, 0),
         (256, 0, 1),
         (257, 1, 1),
         (u32::MAX, 0, 1),
@@ -216,7 +224,8 @@ fn every_make() {
     for profile in 0..=300 {
         for way in (0..=300).chain([1 << 16, 1 << 24, u32::MAX]) {
             let number = hold_write(&make(profile, way, !profile), 16, 0, &"makes");
-            assert_eq!(number, u32::from(profile > 255 || way > 1));
+            let unsaid = profile == 5 || profile > 255 || way > 1;
+            assert_eq!(number, u32::from(unsaid), "profile {profile}, way {way}");
         }
     }
 }
@@ -288,11 +297,12 @@ fn there_and_back(bytes: &[u8; RECORD_BYTES]) -> Option<[u8; RECORD_BYTES]> {
     (archive_write(&call, &mut back, 0) == 0).then_some(back)
 }
 
-/// Whether a record has zeros in what its kind does not use, 0 or 1 as a make's lifetime, and no 1,000 as a sample's.
+/// Whether a record has zeros in what its kind does not use, 0 or 1 as a make's lifetime, and no 1,000 as a sample's; and
+/// is no make of profile 5, whose list it has no room for.
 fn comes_back(bytes: &[u8; RECORD_BYTES]) -> bool {
     let zero = |from: usize, to: usize| bytes[from..to].iter().all(|&byte| byte == 0);
     match bytes[0] {
-        0 => zero(2, 4) && bytes[4] < 2 && zero(5, 12),
+        0 => bytes[1] != 5 && zero(2, 4) && bytes[4] < 2 && zero(5, 12),
         1 => zero(1, 4) && bytes[4..8] != 1_000u32.to_le_bytes(),
         2 => true,
         _ => zero(1, 12),
@@ -351,17 +361,19 @@ fn random_records_there_and_back() {
     }
 }
 
-const EDGE_BYTES: [u32; 8] = [0, 3, 4, 255, 256, 257, 65_536, u32::MAX];
+const EDGE_BYTES: [u32; 9] = [0, 3, 4, 5, 255, 256, 257, 65_536, u32::MAX];
 const EDGE_TWO_BYTES: [u32; 8] = [0, 1, 4_000, 65_535, 65_536, 65_537, 1 << 24, u32::MAX];
 
 fn any_call(rng: &mut Rng) -> LogCall {
     let stamp = rng.next_u32();
     match rng.below(5) {
-        0 => make(
-            edge_or(rng, &EDGE_BYTES, 255),
-            rng.pick(&[0, 0, 0, 1, 1, 1, 2, 256, u32::MAX]),
+        // Whatever its list, a make is written without it.
+        0 => LogCall::Make {
+            profile: edge_or(rng, &EDGE_BYTES, 255),
+            oldway: rng.pick(&[0, 0, 0, 1, 1, 1, 2, 256, u32::MAX]),
+            levels: lists::good(rng),
             stamp,
-        ),
+        },
         1 => {
             let (probes, words) = random_words(rng);
             by_words(probes, words, stamp)
@@ -387,9 +399,15 @@ fn any_offer(rng: &mut Rng) -> Offer {
     }
 }
 
-/// A sample by words as one by its count, any other call as it is.
-fn by_its_count(call: &LogCall) -> LogCall {
+/// What a record carries of a call: of a sample by words its count, of a make all but its list, of any other all.
+fn carried(call: &LogCall) -> LogCall {
     match call {
+        LogCall::Make {
+            profile,
+            oldway,
+            stamp,
+            ..
+        } => make(*profile, *oldway, *stamp),
         LogCall::On(Call::SampleWords {
             probes,
             words,
@@ -418,7 +436,7 @@ fn random_calls_there_and_back() {
         seen[number as usize] += 1;
         if number == 0 {
             let back = read(&Record::from_bytes(&written(&call)));
-            assert_eq!(back, Ok(by_its_count(&call)), "call {index}: {call:?}");
+            assert_eq!(back, Ok(carried(&call)), "call {index}: {call:?}");
         }
     }
     for (number, &times) in seen.iter().enumerate() {
