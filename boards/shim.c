@@ -77,7 +77,8 @@ uint32_t presscurlew_plain_layout(void) {
 
 /* The gate. */
 
-void presscurlew_raw_make(presscurlew_turn *out, uint32_t profile, uint32_t when_full, uint32_t stamp);
+void presscurlew_raw_make(presscurlew_turn *out, uint32_t profile, uint32_t when_full, presscurlew_levels *list,
+                          uint32_t stamp);
 void presscurlew_raw_sample_words(presscurlew_turn *out, presscurlew_state *state, uint32_t probes, const slice *words,
                                   uint32_t stamp);
 void presscurlew_raw_sample_count(presscurlew_turn *out, presscurlew_state *state, uint32_t busy, uint32_t probes,
@@ -88,10 +89,10 @@ void presscurlew_raw_poll(presscurlew_turn *out, presscurlew_state *state, uint3
 void presscurlew_raw_burst(presscurlew_burst_turn *out, presscurlew_state *state, const slice *records,
                            const slice *answers);
 
-presscurlew_turn presscurlew_make(uint32_t profile, uint32_t when_full, uint32_t stamp) {
+presscurlew_turn presscurlew_make(uint32_t profile, uint32_t when_full, presscurlew_levels list, uint32_t stamp) {
     presscurlew_turn turn;
 
-    presscurlew_raw_make(&turn, profile, when_full, stamp);
+    presscurlew_raw_make(&turn, profile, when_full, &list, stamp);
     return turn;
 }
 
@@ -240,7 +241,8 @@ presscurlew_float_answer presscurlew_float_update(double duty, double smoothed, 
 
 /* The plain engine. */
 
-void presscurlew_raw_plain_make(presscurlew_plain_turn *out, uint32_t profile, uint32_t when_full, uint32_t stamp);
+void presscurlew_raw_plain_make(presscurlew_plain_turn *out, uint32_t profile, uint32_t when_full,
+                                presscurlew_levels *list, uint32_t stamp);
 void presscurlew_raw_plain_sample_words(presscurlew_plain_turn *out, presscurlew_plain_state *state, uint32_t probes,
                                         const slice *words, uint32_t stamp);
 void presscurlew_raw_plain_sample_count(presscurlew_plain_turn *out, presscurlew_plain_state *state, uint32_t busy,
@@ -251,10 +253,11 @@ void presscurlew_raw_plain_poll(presscurlew_plain_turn *out, presscurlew_plain_s
 void presscurlew_raw_plain_burst(presscurlew_plain_burst_turn *out, presscurlew_plain_state *state,
                                  const slice *records, const slice *answers);
 
-presscurlew_plain_turn presscurlew_plain_make(uint32_t profile, uint32_t when_full, uint32_t stamp) {
+presscurlew_plain_turn presscurlew_plain_make(uint32_t profile, uint32_t when_full, presscurlew_levels list,
+                                              uint32_t stamp) {
     presscurlew_plain_turn turn;
 
-    presscurlew_raw_plain_make(&turn, profile, when_full, stamp);
+    presscurlew_raw_plain_make(&turn, profile, when_full, &list, stamp);
     return turn;
 }
 

@@ -4,7 +4,7 @@
  *
  *   stress                  plays ROUNDS rounds and writes the sum after each, then what was seen
  *
- * It ends with an error if a refusal number was never seen, or a kind of answer, or a ledger of 30 admissions.
+ * It ends with an error if a refusal number was never seen, or a kind of answer, a ledger of 30 admissions or level 8.
  * Arguments are computed one by one, as C does not say in which order a call's own are.
  */
 #include <inttypes.h>
@@ -20,7 +20,7 @@
 enum { STEPS = 1250, RECORDS = 6 };
 
 static uint64_t seed = 88172645463325252u, sum = 1, calls;
-static uint32_t kinds[6], refusals[16], longest_ledger;
+static uint32_t kinds[6], refusals[17], longest_ledger, highest_level;
 
 static uint64_t any(void) {
     seed ^= seed << 13;
@@ -48,12 +48,23 @@ static void add_packet(const presscurlew_packet *p) {
 
 static void add_ledger(const presscurlew_ledger *l) {
     add(l->len);
-    for (int i = 0; i < 40; i++) {
-        add(l->ats[i]);
-        add(l->ontimes[i]);
-    }
+    for (int i = 0; i < 40; i++)
+        add(l->slots[i]);
     if (l->len <= 40 && l->len > longest_ledger)
         longest_ledger = (uint32_t)l->len;
+}
+
+/* Profile 5's list and loads, and the level, which in the other profiles stays below 5. */
+static void add_listing(const presscurlew_levels *l, const presscurlew_loads *s, uint32_t level) {
+    add(l->len);
+    add(l->wait);
+    for (int i = 0; i < 8; i++)
+        add((uint64_t)l->above[i] << 32 | l->waits[i]);
+    add(s->len);
+    for (int i = 0; i < 50; i++)
+        add(s->slots[i]);
+    if (level <= 8 && level > highest_level)
+        highest_level = level;
 }
 
 static void add_rest(const presscurlew_clock *c, const presscurlew_last *a, const presscurlew_counts *n,
@@ -77,7 +88,8 @@ static void add_state(const presscurlew_state *s) {
         for (int i = 0; i < 5; i++)
             add_packet(&s->queues[q].slots[i]);
     }
-    add_ledger(&s->ledger);
+    add_ledger(&s->rows.ledger);
+    add_listing(&s->levels, &s->rows.loads, s->tuning.level);
     add_rest(&s->clock, &s->last, &s->counts, &s->tuning);
     add((uint64_t)s->profile << 32 | s->oldway);
     add(s->live);
@@ -88,6 +100,7 @@ static void add_plain_state(const presscurlew_plain_state *s) {
     for (int i = 0; i < 20; i++)
         add_packet(&s->line.packets[i]);
     add_ledger(&s->ledger);
+    add_listing(&s->levels, &s->loads, s->tuning.level);
     add_rest(&s->clock, &s->last, &s->counts, &s->tuning);
     add((uint64_t)s->profile << 32 | s->oldway);
     add(s->live);
@@ -96,7 +109,7 @@ static void add_plain_state(const presscurlew_plain_state *s) {
 static void add_refusal(uint64_t number) {
     calls++;
     add(number);
-    refusals[number < 16 ? number : 15]++;
+    refusals[number < 16 ? number : 16]++;
 }
 
 static void add_reply(const presscurlew_reply *r) {
@@ -133,13 +146,49 @@ static void keep(const presscurlew_turn *t, const presscurlew_plain_turn *u, uin
     plain = u->state;
 }
 
-static void make(uint32_t profile, uint32_t when_full) {
+/*
+ * A list of levels, thresholds rising by any steps and waits at any place between their limits, and anything past its
+ * length; a bad one has one number off, or its length.
+ */
+static presscurlew_levels draw_list(uint32_t good) {
+    static const uint32_t waits[] = {40000, 40001, 999999, 1000000};
+    presscurlew_levels list = presscurlew_no_list();
+    uint32_t many = 1 + below(8), above = 0, place = below(many), way = below(5);
+
+    list.len = many;
+    list.wait = one_in(2) ? waits[below(4)] : 40000 + below(960001);
+    for (uint32_t i = 0; i < 8; i++) {
+        above += 1 + below(one_in(3) ? 2 : 125000);
+        list.above[i] = above;
+        list.waits[i] = one_in(2) ? waits[below(4)] : 40000 + below(960001);
+        if (i >= many && one_in(2))
+            list.waits[i] = (uint32_t)any();
+    }
+    if (good)
+        return list;
+    if (way == 0)
+        list.len = one_in(2) ? 0 : UINT64_C(9) << below(33);
+    if (way == 1)
+        list.wait = one_in(2) ? 39999 : 1000001;
+    if (way == 2)
+        list.waits[place] = one_in(2) ? 39999 : 1000001;
+    if (way == 3)
+        list.above[place] = place > 0 ? list.above[place - 1] : 0;
+    if (way == 4)
+        list.above[many - 1] = 1000001;
+    return list;
+}
+
+static void make_with(uint32_t profile, uint32_t when_full, presscurlew_levels list) {
     uint32_t stamp = (uint32_t)any();
-    presscurlew_turn t = presscurlew_make(profile, when_full, stamp);
-    presscurlew_plain_turn u = presscurlew_plain_make(profile, when_full, stamp);
+    presscurlew_turn t = presscurlew_make(profile, when_full, list, stamp);
+    presscurlew_plain_turn u = presscurlew_plain_make(profile, when_full, list, stamp);
 
     keep(&t, &u, stamp);
 }
+
+/* Only profile 5 looks at the list. */
+static void make(uint32_t profile, uint32_t when_full) { make_with(profile, when_full, draw_list(1)); }
 
 /*
  * How far it is to where something happens, or 1 us before: a packet expires, an admission ages, or the clock ends; or
@@ -147,6 +196,7 @@ static void make(uint32_t profile, uint32_t when_full) {
  */
 static uint64_t to_next_edge(void) {
     const presscurlew_queue *q = &gate.queues[below(4)];
+    const presscurlew_ledger *l = &gate.rows.ledger;
     uint64_t at = gate.clock.time;
 
     switch (below(4)) {
@@ -155,7 +205,7 @@ static uint64_t to_next_edge(void) {
             at = q->slots[0].arrival + q->slots[below((uint32_t)q->len)].lifetime;
         break;
     case 1:
-        at = gate.ledger.len > 0 ? gate.ledger.ats[0] + 1000000 : at;
+        at = l->len > 0 ? gate.last.at - l->slots[0] / 4096 + 1000000 : at;
         break;
     case 2:
         at = UINT64_C(1000000000000000) + 1;
@@ -182,8 +232,8 @@ static uint32_t next_stamp(void) {
 static uint32_t ledger_sum(void) {
     uint32_t on_air = 0;
 
-    for (uint64_t i = 0; i < gate.ledger.len && i < 40; i++)
-        on_air += gate.ledger.ontimes[i];
+    for (uint64_t i = 0; i < gate.rows.ledger.len && i < 40; i++)
+        on_air += gate.rows.ledger.slots[i] % 4096;
     return on_air;
 }
 
@@ -232,6 +282,20 @@ static void sample_count(void) {
     presscurlew_plain_turn u = presscurlew_plain_sample_count(plain, busy, probes, stamp);
 
     keep(&t, &u, stamp);
+}
+
+/* Profile 5: some samples of one load, of a threshold or beside it, so that the last ten or fifty are of it. */
+static void steady_samples(void) {
+    uint32_t place = below(8), many = one_in(4) ? 51 : 1 + below(12);
+    uint32_t load = gate.levels.above[place] + below(3), busy = one_in(2) ? load / 80 : 12500 * below(2);
+
+    for (uint32_t i = 0; i < many; i++) {
+        uint32_t stamp = next_stamp();
+        presscurlew_turn t = presscurlew_sample_count(gate, busy, 12500, stamp);
+        presscurlew_plain_turn u = presscurlew_plain_sample_count(plain, busy, 12500, stamp);
+
+        keep(&t, &u, stamp);
+    }
 }
 
 /* A sample by words of up to 20 words, or all 196; a stray bit or a word too few now and then. */
@@ -412,17 +476,13 @@ static void float_updates(void) {
     }
 }
 
-/* Moves all times of a sound state on by d: a gate near the end of its clock. */
+/* Moves all times of a sound state on by d: a gate near the end of its clock. The ledger's go by the last admission. */
 static void grow_old(uint64_t d) {
     for (int q = 0; q < 4; q++)
         for (uint64_t i = 0; i < gate.queues[q].len; i++)
             gate.queues[q].slots[i].arrival += d;
     for (uint64_t i = 0; i < plain.line.len; i++)
         plain.line.packets[i].arrival += d;
-    for (uint64_t i = 0; i < gate.ledger.len; i++) {
-        gate.ledger.ats[i] += d;
-        plain.ledger.ats[i] += d;
-    }
     gate.last.at += gate.last.admitted != 0 ? d : 0;
     plain.last.at += plain.last.admitted != 0 ? d : 0;
     gate.clock.time += d;
@@ -442,31 +502,62 @@ static void spoil_any(uint8_t *state, uint32_t bytes) {
     memcpy(state + place, &value, 4);
 }
 
+/* A word of the ledger: made so long before the last admission, with this on-time. */
+static uint32_t word(uint32_t age, uint32_t ontime) { return age * 4096 + ontime; }
+
 /* The ledger at the edge of what is sound: two admissions, the sum of the on-times, or the age of the oldest. */
-static void spoil_ledger(presscurlew_ledger *ledger, uint64_t time, uint32_t way, uint32_t place, uint32_t more) {
+static void spoil_ledger(presscurlew_ledger *ledger, uint32_t way, uint32_t place, uint32_t more) {
+    uint32_t *words = ledger->slots, ago = (uint32_t)(gate.clock.time - gate.last.at);
+
     if (way == 0)
-        ledger->ats[place] = ledger->ats[place + 1] - 25000 + more;
+        words[place] = word(words[place + 1] / 4096 + 25000 - more, words[place] % 4096);
     for (uint32_t i = 0, lacking = 30000 + more - ledger_sum(); way == 1 && i < ledger->len - 1; i++) {
-        uint32_t room = most > ledger->ontimes[i] ? most - ledger->ontimes[i] : 0;
+        uint32_t room = most > words[i] % 4096 ? most - words[i] % 4096 : 0;
         uint32_t longer = room < lacking ? room : lacking;
-        ledger->ontimes[i] += longer;
+        words[i] += longer;
         lacking -= longer;
     }
     if (way == 2)
-        ledger->ats[0] = time - 1000000 + more;
+        words[0] = word(1000000 - more - ago, words[0] % 4096);
+}
+
+/* The list or the loads at the edge of what is sound, in any profile. */
+static void spoil_listing(presscurlew_levels *list, presscurlew_loads *loads, uint32_t way, uint32_t place) {
+    if (way == 0)
+        list->len = place % 10;
+    if (way == 1)
+        list->above[place % 8] = place % 8 > 0 ? list->above[place % 8 - 1] + place % 2 : place % 2;
+    if (way == 2)
+        list->waits[place % 8] = place % 3 == 0 ? 0 : 39998 + place % 3;
+    if (way == 3)
+        loads->len = place < 13 ? 50 + place % 2 : place;
+    if (way == 4)
+        loads->slots[place] = 1000000 + place % 2;
 }
 
 static void spoil(void) {
-    uint32_t way = below(3), place = below(40), more = below(2);
-    presscurlew_ledger ledger = gate.ledger;
+    uint32_t way = below(4), place = below(40), more = below(2);
+    presscurlew_ledger ledger = gate.rows.ledger;
+    uint64_t oldest = gate.clock.time - 1000000 + more;
 
+    if (one_in(3)) {
+        way = below(5);
+        spoil_listing(&gate.levels, &gate.rows.loads, way, place);
+        spoil_listing(&plain.levels, &plain.loads, way, place);
+        return;
+    }
     if (one_in(2) || place + 1 >= ledger.len) {
         spoil_any((uint8_t *)&gate, sizeof gate);
         spoil_any((uint8_t *)&plain, sizeof plain);
         return;
     }
-    spoil_ledger(&ledger, gate.clock.time, way, place, more);
-    gate.ledger = ledger;
+    if (way == 3) { /* all of the ledger moves with the last admission */
+        gate.last.at = oldest + ledger.slots[0] / 4096;
+        plain.last.at = gate.last.at;
+        return;
+    }
+    spoil_ledger(&ledger, way, place, more);
+    gate.rows.ledger = ledger;
     plain.ledger = ledger;
 }
 
@@ -527,9 +618,9 @@ static void aside(void) {
  * steps to where something happens or without.
  */
 static void new_stretch(uint32_t profile) {
-    static const uint32_t allowed[] = {1000, 1000, 500, 4000, 4000};
+    static const uint32_t allowed[] = {1000, 1000, 500, 4000, 4000, 1000};
 
-    most = profile <= 4 ? allowed[profile] : 1000;
+    most = profile <= 5 ? allowed[profile] : 1000;
     longest = one_in(2) ? most : one_in(2) ? 300 : most / 2;
     busy_most = one_in(2) ? 20 : one_in(2) ? 70 : 100;
     slow = one_in(4) ? 900000 : one_in(2) ? 30000 : 3000;
@@ -542,6 +633,8 @@ static void play(uint32_t profile, uint32_t when_full) {
         if (i % 250 == 0)
             new_stretch(profile);
         any_call();
+        if (profile == 5 && one_in(12))
+            steady_samples();
         if (one_in(8))
             aside();
         if (one_in(8))
@@ -560,8 +653,8 @@ static void play_loads(void) {
     for (uint32_t i = 0; i < 2 * 1001; i++) {
         uint32_t ontime = ontimes[i % 2], load = i / 2 * 1000;
         presscurlew_wait_answer answer = presscurlew_wait(4, 0, 600000, ontime, load);
-        presscurlew_turn t = presscurlew_make(4, 0, 0);
-        presscurlew_plain_turn u = presscurlew_plain_make(4, 0, 0);
+        presscurlew_turn t = presscurlew_make(4, 0, presscurlew_no_list(), 0);
+        presscurlew_plain_turn u = presscurlew_plain_make(4, 0, presscurlew_no_list(), 0);
 
         t = presscurlew_offer(t.state, 1, 0, ontime, 60000000, 0);
         u = presscurlew_plain_offer(u.state, 1, 0, ontime, 60000000, 0);
@@ -589,16 +682,23 @@ static void play_none(void) {
         for (int k = 0; k < 4; k++)
             any_call();
     }
+    for (int i = 0; i < 20; i++) {
+        uint32_t profile = i < 16 ? 5 : 1 + below(6), when_full = below(i < 16 ? 2 : 3);
+        presscurlew_levels list = draw_list(0);
+
+        make_with(profile, when_full, list);
+        any_call();
+    }
 }
 
 static int all_seen(void) {
-    int seen = longest_ledger >= 30;
+    int seen = longest_ledger >= 30 && highest_level == 8;
 
     for (int i = 0; i < 6; i++)
         seen = seen && kinds[i] > 0;
-    for (int i = 1; i <= 14; i++)
+    for (int i = 1; i <= 15; i++)
         seen = seen && refusals[i] > 0;
-    return seen && refusals[15] == 0;
+    return seen && refusals[16] == 0;
 }
 
 int main(void) {
@@ -606,7 +706,7 @@ int main(void) {
     for (uint32_t round = 1; round <= ROUNDS; round++) {
         new_stretch(1);
         play_none();
-        for (uint32_t profile = 1; presscurlew_make(profile, 0, 0).reply.kind == PRESSCURLEW_READY; profile++) {
+        for (uint32_t profile = 1; profile <= 5; profile++) {
             play(profile, PRESSCURLEW_DROP_OLDEST);
             play(profile, PRESSCURLEW_REFUSE_NEW);
         }
@@ -616,7 +716,7 @@ int main(void) {
         for (int i = 0; i < 6; i++)
             printf(" %" PRIu32, kinds[i]);
         printf("; refusals");
-        for (int i = 1; i <= 14; i++)
+        for (int i = 1; i <= 15; i++)
             printf(" %" PRIu32, refusals[i]);
         printf("\n");
         fflush(stdout);

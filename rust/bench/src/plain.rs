@@ -19,23 +19,57 @@ pub struct Queue {
     pub slots: [Packet; 5],
 }
 
-/// The admissions of the last second, laid out as the archive's.
+/// The admissions of the last second, laid out as the archive's: a word says how long before the last one an admission
+/// was made, times 4,096, and its on-time.
 #[derive(Clone, Copy, PartialEq, Eq, Debug)]
 #[repr(C)]
 pub struct Ledger {
     pub len: usize,
-    pub ats: [u64; 40],
-    pub ontimes: [u32; 40],
+    pub slots: [u32; 40],
 }
 
 impl Default for Ledger {
     fn default() -> Ledger {
         Ledger {
             len: 0,
-            ats: [0; 40],
-            ontimes: [0; 40],
+            slots: [0; 40],
         }
     }
+}
+
+/// Profile 5's list of levels, laid out as the archive's.
+#[derive(Clone, Copy, Default, PartialEq, Eq, Debug)]
+#[repr(C)]
+pub struct Levels {
+    pub len: usize,
+    pub wait: u32,
+    pub above: [u32; 8],
+    pub waits: [u32; 8],
+}
+
+/// Profile 5's last loads, laid out as the archive's.
+#[derive(Clone, Copy, PartialEq, Eq, Debug)]
+#[repr(C)]
+pub struct Loads {
+    pub len: usize,
+    pub slots: [u32; 50],
+}
+
+impl Default for Loads {
+    fn default() -> Loads {
+        Loads {
+            len: 0,
+            slots: [0; 50],
+        }
+    }
+}
+
+/// What calls change in rows, laid out as the archive's.
+#[derive(Clone, Copy, Default, PartialEq, Eq, Debug)]
+#[repr(C)]
+pub struct Rows {
+    pub ledger: Ledger,
+    pub loads: Loads,
 }
 
 /// A gate's state, laid out as the archive's.
@@ -43,7 +77,8 @@ impl Default for Ledger {
 #[repr(C)]
 pub struct State {
     pub queues: [Queue; 4],
-    pub ledger: Ledger,
+    pub levels: Levels,
+    pub rows: Rows,
     pub time: u64,
     pub stamp: u32,
     pub gap: u32,
@@ -104,7 +139,7 @@ pub fn busy_of(probes: u32, words: &[u64]) -> Option<u32> {
 
 fn most_ontime(profile: u32) -> u32 {
     match profile {
-        1 => 1000,
+        1 | 5 => 1000,
         2 => 500,
         _ => 4000,
     }
@@ -175,66 +210,164 @@ impl Queue {
     }
 }
 
+fn age_of(word: &u32) -> u32 {
+    word >> 12
+}
+
+fn ontime_of(word: &u32) -> u32 {
+    word & 0xfff
+}
+
+/// Times of a ledger go by the last admission: `since` is how long ago that was made.
 impl Ledger {
-    /// `last` is the last admission, if there is one.
-    fn is_sound(&self, most: u32, now: u64, last: Option<(u64, u32)>) -> bool {
-        let n = self.len;
-        if n > 40 {
-            return false;
-        }
-        let mut earliest = 0;
-        let mut air = 0;
-        for (&at, &ontime) in self.ats[..n].iter().zip(&self.ontimes[..n]) {
-            if at < earliest || at > now || now - at >= SECOND || !(1..=most).contains(&ontime) {
-                return false;
-            }
-            earliest = at + 25_000;
-            air += ontime;
-        }
-        let newest = match last {
-            Some((at, ontime)) if now - at < SECOND => {
-                n > 0 && self.ats[n - 1] == at && self.ontimes[n - 1] == ontime
-            }
-            _ => n == 0,
-        };
-        // Unused room is read to its end, many numbers at once: faster than to stop at the first that isn't zero.
-        let ats = self.ats[n..].iter().fold(0, |bits, at| bits | at);
-        let ontimes = self.ontimes[n..].iter().fold(0, |bits, o| bits | o);
-        air <= MOST_AIR && newest && ats == 0 && ontimes == 0
+    fn held(&self) -> &[u32] {
+        &self.slots[..self.len]
     }
 
-    fn drop_aged(&mut self, now: u64) {
+    /// `last` is the last admission, if there is one.
+    fn is_sound(&self, most: u32, now: u64, last: Option<(u64, u32)>) -> bool {
+        if self.len > 40 || !are_zero(&self.slots[self.len..]) {
+            return false;
+        }
+        let recent = last.filter(|&(at, _)| now - at < SECOND);
+        let held = self.held();
+        let (Some((at, ontime)), [oldest, ..], [.., newest]) = (recent, held, held) else {
+            return recent.is_none() && self.len == 0;
+        };
+        // As ages fall, that of the oldest is the greatest.
+        let age = age_of(oldest) as u64;
+        *newest == ontime
+            && age <= at
+            && age < SECOND - (now - at)
+            && self.is_spaced_and_allowed(most)
+    }
+
+    /// Whether gaps, on-times and their sum are as they should be. Words are read to their end, many at once: faster
+    /// than to stop at the first that isn't.
+    fn is_spaced_and_allowed(&self, most: u32) -> bool {
+        let held = self.held();
+        let pairs = held.iter().zip(&held[1..]);
+        let spaced = pairs.fold(true, |all, (older, newer)| {
+            all & (age_of(older) >= age_of(newer) + 25_000)
+        });
+        let ontimes = held.iter().map(ontime_of);
+        let (allowed, air) = ontimes.fold((true, 0), |(all, air), ontime| {
+            (all & (1..=most).contains(&ontime), air + ontime)
+        });
+        spaced && allowed && air <= MOST_AIR
+    }
+
+    fn drop_aged(&mut self, since: u64) {
         let n = self.len;
-        let held = self.ats[..n].iter();
-        let aged = held.take_while(|&&at| now - at >= SECOND).count();
+        let aged = |word: &&u32| since + age_of(word) as u64 >= SECOND;
+        let aged = self.held().iter().take_while(aged).count();
         if aged > 0 {
-            self.ats.copy_within(aged..n, 0);
-            self.ontimes.copy_within(aged..n, 0);
-            self.ats[n - aged..n].fill(0);
-            self.ontimes[n - aged..n].fill(0);
+            self.slots.copy_within(aged..n, 0);
+            self.slots[n - aged..n].fill(0);
             self.len = n - aged;
         }
     }
 
-    fn push(&mut self, at: u64, ontime: u32) {
-        self.ats[self.len] = at;
-        self.ontimes[self.len] = ontime;
+    /// Notes an admission, which is now the last one: the others were made so much longer before it.
+    fn push(&mut self, ontime: u32, since: u64) {
+        for word in &mut self.slots[..self.len] {
+            *word += (since as u32) << 12;
+        }
+        self.slots[self.len] = ontime;
         self.len += 1;
     }
 
     /// The µs until a packet fits into the second.
-    fn air_left(&self, ontime: u32, now: u64) -> u64 {
-        let n = self.len;
-        let mut air = ontime + self.ontimes[..n].iter().sum::<u32>();
-        let mut from = now;
-        for (&at, &ontime) in self.ats[..n].iter().zip(&self.ontimes[..n]) {
+    fn air_left(&self, ontime: u32, since: u64) -> u64 {
+        let mut air = ontime + self.held().iter().map(ontime_of).sum::<u32>();
+        let mut left = 0;
+        for word in self.held() {
             if air <= MOST_AIR {
                 break;
             }
-            from = at + SECOND;
-            air -= ontime;
+            left = SECOND - since - age_of(word) as u64;
+            air -= ontime_of(word);
         }
-        from - now
+        left
+    }
+}
+
+/// Whether all numbers are zero: read to their end, many at once.
+fn are_zero(numbers: &[u32]) -> bool {
+    numbers.iter().fold(0, |bits, number| bits | number) == 0
+}
+
+impl Levels {
+    /// Whether a gate of profile 5 may be made of the list.
+    pub fn is_good(&self) -> bool {
+        let n = self.len;
+        if !(1..=8).contains(&n) || !is_wait(self.wait) {
+            return false;
+        }
+        let mut below = 0;
+        for (&above, &wait) in self.above[..n].iter().zip(&self.waits[..n]) {
+            if above <= below || above > 1_000_000 || !is_wait(wait) {
+                return false;
+            }
+            below = above;
+        }
+        true
+    }
+
+    fn is_sound(&self) -> bool {
+        self.is_good() && are_zero(&self.above[self.len..]) && are_zero(&self.waits[self.len..])
+    }
+
+    /// The list with nothing past its length.
+    pub fn tidied(mut self) -> Levels {
+        self.above[self.len..].fill(0);
+        self.waits[self.len..].fill(0);
+        self
+    }
+
+    fn reached(&self, load: u32) -> u32 {
+        let rising = self.above[..self.len].iter();
+        rising.take_while(|&&above| above <= load).count() as u32
+    }
+
+    fn wait_of(&self, level: u32) -> u32 {
+        match level {
+            0 => self.wait,
+            _ => self.waits[level as usize - 1],
+        }
+    }
+}
+
+fn is_wait(wait: u32) -> bool {
+    (40_000..=1_000_000).contains(&wait)
+}
+
+impl Loads {
+    fn is_sound(&self) -> bool {
+        let n = self.len;
+        n <= 50
+            && self.slots[..n].iter().all(|&load| load <= 1_000_000)
+            && are_zero(&self.slots[n..])
+    }
+
+    fn push(&mut self, load: u32) {
+        if self.len == 50 {
+            self.slots.copy_within(1.., 0);
+            self.len = 49;
+        }
+        self.slots[self.len] = load;
+        self.len += 1;
+    }
+
+    /// The least of the last ten, or 0, and the greatest of all.
+    fn low_and_high(&self) -> (u32, u32) {
+        let held = &self.slots[..self.len];
+        let high = held.iter().copied().max().unwrap_or(0);
+        let low = match held.len() {
+            0..10 => 0,
+            n => held[n - 10..].iter().copied().min().unwrap_or(0),
+        };
+        (low, high)
     }
 }
 
@@ -250,12 +383,34 @@ impl State {
         }
     }
 
+    /// A state of profile 5 with a good list.
+    pub fn listed(levels: Levels, oldway: u32, stamp: u32) -> State {
+        let mut state = State::new(5, oldway, stamp);
+        state.levels = levels.tidied();
+        state
+    }
+
+    /// Whether the list and the loads are profile 5's, or there are none.
+    fn is_listing_sound(&self) -> bool {
+        let (levels, loads) = (&self.levels, &self.rows.loads);
+        if self.profile == 5 {
+            return levels.is_sound() && self.level as usize <= levels.len && loads.is_sound();
+        }
+        self.level <= 4
+            && loads.len == 0
+            && levels.len == 0
+            && levels.wait == 0
+            && are_zero(&loads.slots)
+            && are_zero(&levels.above)
+            && are_zero(&levels.waits)
+    }
+
     /// The whole soundness test.
     pub fn is_sound(&self) -> bool {
         let tuning = self.live == 1
-            && (1..=4).contains(&self.profile)
+            && (1..=5).contains(&self.profile)
             && self.oldway <= 1
-            && self.level <= 4
+            && self.is_listing_sound()
             && (600_000..=30_000_000).contains(&self.duty)
             && self.smoothed <= 1_000_000
             && self.kept <= 1_000_000
@@ -279,7 +434,7 @@ impl State {
         tuning
             && last
             && (0..4).all(|k| self.queues[k].is_sound(k as u32, most, self.time))
-            && self.ledger.is_sound(most, self.time, self.last())
+            && self.rows.ledger.is_sound(most, self.time, self.last())
             && self.adds_up()
     }
 
@@ -313,7 +468,7 @@ impl State {
     fn move_to(&mut self, now: u64, stamp: u32) {
         self.time = now;
         self.stamp = stamp;
-        self.ledger.drop_aged(now);
+        self.rows.ledger.drop_aged(now - self.at);
     }
 
     fn clear(&mut self, now: u64, stamp: u32) {
@@ -326,6 +481,12 @@ impl State {
     fn take_load(&mut self, load: u32) {
         if self.profile == 4 {
             self.latest = load;
+        } else if self.profile == 5 {
+            let loads = &mut self.rows.loads;
+            loads.push(load);
+            let (low, high) = loads.low_and_high();
+            let (up, down) = (self.levels.reached(low), self.levels.reached(high));
+            self.level = self.level.clamp(up, down);
         } else if self.profile != 3 {
             let last = if self.profile == 1 { 600_000 } else { 650_000 };
             let wanted = match load {
@@ -361,6 +522,9 @@ impl State {
         ];
         if self.profile < 3 {
             return self.ontime as u64 + WAITS[self.profile as usize - 1][self.level as usize];
+        }
+        if self.profile == 5 {
+            return (self.ontime + self.levels.wait_of(self.level)) as u64;
         }
         if self.profile == 4 {
             return (self.ontime + harmonised_wait(self.ontime, self.latest)) as u64;
@@ -441,15 +605,16 @@ impl State {
         let Some(k) = self.queues.iter().position(|q| q.len > 0) else {
             return Answer::Idle;
         };
-        let mut left = self.ledger.air_left(self.queues[k].slots[0].ontime, now);
+        let (next, since) = (self.queues[k].slots[0], now - self.at);
+        let mut left = self.rows.ledger.air_left(next.ontime, since);
         if self.admitted == 1 {
-            left = left.max(self.closed_for().saturating_sub(now - self.at));
+            left = left.max(self.closed_for().saturating_sub(since));
         }
         if left > 0 {
             return Answer::Closed(left);
         }
         let p = self.queues[k].pop();
-        self.ledger.push(now, p.ontime);
+        self.rows.ledger.push(p.ontime, since);
         self.sent += 1;
         self.admitted = 1;
         self.at = now;

@@ -4,7 +4,7 @@
 use presscurlew::sys;
 
 use crate::places::{Call, Run};
-use crate::plain::{by_value, Answer, Ledger, Packet, Queue, State};
+use crate::plain::{by_value, Answer, Ledger, Levels, Loads, Packet, Queue, Rows, State};
 
 /// The state that a row starts from, as the archive has it and as plain Rust does.
 #[derive(Clone, Copy)]
@@ -55,14 +55,33 @@ fn queue(q: sys::Queue) -> Queue {
     }
 }
 
+fn levels(l: sys::Levels) -> Levels {
+    Levels {
+        len: l.len as usize,
+        wait: l.wait,
+        above: l.above,
+        waits: l.waits,
+    }
+}
+
+fn rows(r: sys::Rows) -> Rows {
+    Rows {
+        ledger: Ledger {
+            len: r.ledger.len as usize,
+            slots: r.ledger.slots,
+        },
+        loads: Loads {
+            len: r.loads.len as usize,
+            slots: r.loads.slots,
+        },
+    }
+}
+
 fn state(s: sys::State) -> State {
     State {
         queues: s.queues.map(queue),
-        ledger: Ledger {
-            len: s.ledger.len as usize,
-            ats: s.ledger.ats,
-            ontimes: s.ledger.ontimes,
-        },
+        levels: levels(s.levels),
+        rows: rows(s.rows),
         time: s.clock.time,
         stamp: s.clock.stamp,
         gap: 0,

@@ -157,7 +157,7 @@ trailer send at least, how many trailers are enough for so many, and how long is
 figure comes with what must be so for it. docs/LABEL.md has the formulas, and the theorem that
 proves each.
 
-  --profile P     1 to 4, as the trailer's gate is made
+  --profile P     1 to 5, as the trailer's gate is made
   --poll T        the longest time between two polls of its host, as 50ms
   --before K      so many of priority 0 wait before the warning: 0 to 4 (0)
   --messages N    so many messages a minute are to go

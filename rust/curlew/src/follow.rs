@@ -4,7 +4,7 @@
 //! book's.
 
 use reference::book::{Book, APART, STRETCH_MOST};
-use reference::calls::SPENT;
+use reference::calls;
 use reference::gate::{Answer, Call};
 use reference::log::{read, step, LogCall, Record};
 use reference::state::{Packet, State};
@@ -477,26 +477,9 @@ fn placed(number: u64, record: &Record, text: &str) -> String {
     )
 }
 
-/// The names of the refusal numbers.
-const REFUSALS: [&str; 12] = [
-    "",
-    "BAD-PROFILE",
-    "CLOCK-BACK",
-    "CLOCK-END",
-    "BAD-SAMPLE",
-    "BAD-PRIORITY",
-    "BAD-ON-TIME",
-    "BAD-LIFETIME",
-    "QUEUE-FULL",
-    "NO-STATE",
-    "BAD-KIND",
-    "SPENT",
-];
-
 /// The name of a refusal number.
 pub fn refusal_name(number: u32) -> &'static str {
-    debug_assert_eq!(REFUSALS.len() as u32, SPENT + 1);
-    REFUSALS.get(number as usize).copied().unwrap_or("unknown")
+    calls::refusal_name(number).unwrap_or("unknown")
 }
 
 /// A log's size in words.

@@ -6,7 +6,8 @@ use std::fs;
 
 use reference::book::{floor, owes_ceiling, COLUMN_ROOM, STRETCH, STRETCH_MOST};
 use reference::rules::{
-    on_time_max, profile_known, wait, wait_from, WaitFrom, DUTY_MOST, GAP_LEAST,
+    needs_list, on_time_max, profile_known, wait, wait_from, WaitFrom, DUTY_MOST, GAP_LEAST,
+    PROFILE_5,
 };
 
 use crate::fault::Fault;
@@ -89,7 +90,12 @@ pub fn most(profile: u32, stretch: u64) -> u64 {
 /// As many longest packets as start in the stretch, and what a shorter one more can add.
 fn by_waits(profile: u32, stretch: u64) -> u64 {
     let longest = longest(profile);
-    let least = wait(profile, 0, DUTY_MOST, 1, 0).map_or(0, u64::from);
+    // Profile 5's is the least that a list may have, whatever its own list is.
+    let least = match needs_list(profile) {
+        true => Some(PROFILE_5.wait_least),
+        false => wait(profile, 0, DUTY_MOST, 1, 0),
+    };
+    let least = least.map_or(0, u64::from);
     let stride = match wait_from(profile) {
         Some(WaitFrom::End) => longest + least,
         _ => least,
@@ -101,7 +107,7 @@ fn by_waits(profile: u32, stretch: u64) -> u64 {
 fn judge(asked: &Asked) -> Result<(), Fault> {
     if !profile_known(asked.profile) {
         return Err(Fault::bad(format!(
-            "there is no profile {}: it is 1 to 4",
+            "there is no profile {}: it is 1 to 5",
             asked.profile
         )));
     }

@@ -8,10 +8,12 @@
 mod help;
 
 use help::{
-    archive_write, hold, hold_burst, hold_no_state, hold_no_state_burst, hold_write, raw, Call,
-    LogCall, ACCEPTED_MOST, EDGE_COUNTS, EDGE_LIFETIMES, EDGE_ONTIMES, EDGE_PRIORITIES,
-    EDGE_PROBES, EDGE_STEPS, TIME_END,
+    archive_write, fresh, hold, hold_burst, hold_no_state, hold_no_state_burst, hold_write,
+    levels_of, raw, raw_if, read_state, word, Call, LogCall, ACCEPTED_MOST, EDGE_COUNTS,
+    EDGE_LIFETIMES, EDGE_ONTIMES, EDGE_PRIORITIES, EDGE_PROBES, EDGE_STEPS, TIME_END,
 };
+use presscurlew::sys;
+use reference::levels::{Levels, Loads};
 use reference::log::{read, Record, RECORD_BYTES};
 use reference::state::{sound, Admission, Packet, State};
 
@@ -66,9 +68,9 @@ impl Input<'_> {
         }
     }
 
-    /// Any state, often a sound one.
-    fn state(&mut self) -> State {
-        let profile = self.of(&[1, 2, 3, 4, 0, 5]);
+    /// Any state of the archive, often a sound one.
+    fn state(&mut self) -> sys::State {
+        let profile = self.of(&[1, 2, 3, 4, 5, 0, 6]);
         let (way, stamp) = (
             self.of(&[0, 1, 0, 1, 2]),
             self.of(&[0, 1, 1 << 31, u32::MAX]),
@@ -92,8 +94,65 @@ impl Input<'_> {
             _ => 0,
         };
         self.fill_queues(&mut state);
+        let state = self.listed(state);
         let state = self.admitted(state);
-        self.counted(state)
+        let state = self.counted(state);
+        // A time or an on-time that no word can say: the state is then one without admissions.
+        let state = raw_if(&state).unwrap_or_else(|| raw(&state.with_admissions(&[])));
+        self.reworded(state)
+    }
+
+    /// The state, now and then with another word in its ledger, another length, or another time of the last admission.
+    fn reworded(&mut self, mut state: sys::State) -> sys::State {
+        let ledger = &mut state.rows.ledger;
+        let place = usize::from(self.byte()) % ledger.slots.len();
+        match self.byte() {
+            250 => ledger.slots[place] = self.number(),
+            251 => ledger.slots[place] ^= 1 << (self.byte() % 32),
+            252 => {
+                let age = self.of(&[0, 1, 24_999, 25_000, 999_999, 1_000_000]) % (1 << 20);
+                let ontime = self.of(&[0, 1, 500, 501, 1_000, 1_001, 4_000, 4_001]) % (1 << 12);
+                ledger.slots[place] = word(age, ontime);
+            }
+            253 => ledger.len = u64::from(self.number()) << (self.byte() % 64),
+            254 => ledger.len = u64::from(self.byte() % 42),
+            255 => state.last.at = self.time_before(state.clock.time),
+            _ => {}
+        }
+        state
+    }
+
+    /// The state with a list of levels and last loads if it is of profile 5; now and then one number is another, in any
+    /// profile.
+    fn listed(&mut self, mut state: State) -> State {
+        if state.profile == 5 {
+            let waits = [40_000, 1_000_000, 100_000, 39_999, 1_000_001];
+            let (mut above, mut listed) = (0u32, vec![]);
+            for _ in 0..1 + self.byte() % 8 {
+                let more = self.of(&[1, 1_000, 100_000, 125_000, 0]);
+                above = above.saturating_add(more);
+                listed.push((above, self.of(&waits)));
+            }
+            state.levels = Levels::of(self.of(&waits), &listed);
+            let mut loads = vec![];
+            for _ in 0..self.byte() % 8 {
+                let load = self.of(&[0, above, above.saturating_sub(1), 1_000_000, 1_000_001]);
+                loads.extend(vec![load; usize::from(self.byte() % 16)]);
+            }
+            state.loads = Loads::of(&loads);
+            state.level = self.of(&[0, 1, 4, 5, 8, 9]);
+        }
+        let place = usize::from(self.byte());
+        match self.byte() {
+            250 => state.levels.len = u64::from(self.number()) << (self.byte() % 64),
+            251 => state.levels.wait = self.of(&[0, 40_000]),
+            252 => state.levels.above[place % 8] = self.number(),
+            253 => state.levels.waits[place % 8] = self.number(),
+            254 => state.loads.len = u64::from(self.of(&[0, 10, 49, 50, 51])),
+            255 => state.loads.slots[place % 50] = self.of(&[0, 1, 1_000_000, 1_000_001]),
+            _ => {}
+        }
+        state
     }
 
     /// The state with a last admission and those before it in a ledger, often a sound one.
@@ -109,14 +168,9 @@ impl Input<'_> {
         }
         admissions.reverse();
         let mut state = state.with_admissions(&admissions);
-        let place = usize::from(self.byte()) % state.ledger.slots.len();
         match self.byte() {
-            250 => state.at = self.time_before(state.time),
-            251 => state.ontime = self.of(&[1, 500, 0]),
-            252 => state.any = !state.any,
-            253 => state.ledger.len = u64::from(self.number()) << (self.byte() % 64),
-            254 => state.ledger.slots[place].at = self.time_before(state.time),
-            255 => state.ledger.slots[place].ontime = self.number(),
+            254 => state.ontime = self.of(&[1, 500, 0]),
+            255 => state.any = !state.any,
             _ => {}
         }
         state
@@ -249,6 +303,7 @@ impl Input<'_> {
             0 => LogCall::Make {
                 profile: self.of(&[1, 2, 3, 4, 0, 5, 255, 256, u32::MAX]),
                 oldway: self.of(&[0, 1, 2, 256, u32::MAX]),
+                levels: levels_of(5),
                 stamp,
             },
             1 => LogCall::On(Call::Offer {
@@ -281,29 +336,38 @@ fn try_write(input: &mut Input, call: &Call) {
     let call = read(&Record::from_bytes(&bytes)).expect("a kind of 0 to 3");
     let mut back = [0xa5; RECORD_BYTES];
     if archive_write(&call, &mut back, 0) == 0 {
+        // A make that was read has no list, and reads back so.
         let again = read(&Record::from_bytes(&back));
         assert_eq!(again, Ok(call), "fuzz: {bytes:?} written back as {back:?}");
     }
 }
 
 /// A call and a burst on a state with a flag that the reference has no word for.
-fn try_flags(input: &mut Input, state: &State) {
-    let mut bent = raw(state);
+fn try_flags(input: &mut Input, state: &sys::State) {
+    let mut bent = *state;
     let flag = input.of(&[2, 3, 256, u32::MAX]).max(2);
     match input.byte() % 3 {
         0 => bent.live = flag,
         1 => bent.tuning.pairing = flag,
         _ => bent.last.admitted = flag,
     }
-    hold_no_state(&bent, &input.call(state.stamp), &"flag");
-    hold_no_state_burst(&bent, state.stamp, &"flag");
+    let stamp = state.clock.stamp;
+    hold_no_state(&bent, &input.call(stamp), &"flag");
+    hold_no_state_burst(&bent, stamp, &"flag");
 }
 
 /// Follows the calls of an input from its state on.
 fn follow(bytes: &[u8]) {
     let mut input = Input { bytes };
-    let mut state = input.state();
-    try_flags(&mut input, &state);
+    let given = input.state();
+    try_flags(&mut input, &given);
+    let mut state = read_state(&given).unwrap_or_else(|| {
+        // A word that says more than there was before the last admission.
+        let stamp = given.clock.stamp;
+        hold_no_state(&given, &input.call(stamp), &"word");
+        hold_no_state_burst(&given, stamp, &"word");
+        fresh(1 + stamp % 5, stamp / 5 % 2, stamp)
+    });
     while !input.bytes.is_empty() {
         if input.byte() % 4 == 3 {
             let (records, room) = input.burst(state.stamp);
@@ -319,7 +383,7 @@ fn follow(bytes: &[u8]) {
         } else {
             hold_no_state(&raw(&state), &call, &"fuzz");
             // What was broken stays so: on with a fresh state.
-            state = State::fresh(1 + state.stamp % 4, state.stamp / 4 % 2, state.stamp);
+            state = fresh(1 + state.stamp % 5, state.stamp / 5 % 2, state.stamp);
         }
     }
 }

@@ -112,7 +112,7 @@ const SIDES: [Run<sys::State, End>; 2] = [singles, bursts];
 
 fn measure(mix: &Mix, profile: u32) {
     let (row, name) = (row(mix), mix.name);
-    let start = sys::presscurlew_make(profile, mix.when_full, 0).state;
+    let start = sys::presscurlew_make(profile, mix.when_full, sys::Levels::NONE, 0).state;
     let [one, other] = SIDES.map(|run| run(start, &row));
     assert!(one.state == other.state, "{name}: the states differ");
     assert_eq!(one.answers, other.answers, "{name}: the answers differ");

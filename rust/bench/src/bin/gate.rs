@@ -34,7 +34,7 @@ struct Mix {
 const MIXES: [Mix; 6] = [
     Mix {
         name: "few waiting",
-        profiles: &[1, 3],
+        profiles: &[1, 3, 5],
         call: few,
         step: 70_000,
         when_full: sys::DROP_OLDEST,
@@ -66,7 +66,7 @@ const MIXES: [Mix; 6] = [
     },
     Mix {
         name: "with samples",
-        profiles: &[1, 3],
+        profiles: &[1, 3, 5],
         call: sampled,
         step: 70_000,
         when_full: sys::DROP_OLDEST,
@@ -134,8 +134,27 @@ fn at_the_ceiling(i: u32) -> [u32; 5] {
     }
 }
 
+/// Profile 5's list: six levels, as those of profile 1 and two more.
+fn list_of(profile: u32) -> sys::Levels {
+    let listed = [
+        (150_000, 60_000),
+        (300_000, 200_000),
+        (400_000, 400_000),
+        (500_000, 500_000),
+        (600_000, 800_000),
+        (900_000, 1_000_000),
+    ];
+    match profile {
+        5 => sys::Levels::of(
+            40_000,
+            &listed.map(|(above, wait)| sys::Level { above, wait }),
+        ),
+        _ => sys::Levels::NONE,
+    }
+}
+
 fn start(mix: &Mix, profile: u32) -> Start {
-    let mut archive = sys::presscurlew_make(profile, mix.when_full, 0).state;
+    let mut archive = sys::presscurlew_make(profile, mix.when_full, list_of(profile), 0).state;
     for _ in 0..mix.quiet {
         archive = sys::presscurlew_sample_count(archive, 0, 1_000, 0).state;
     }
@@ -183,7 +202,7 @@ fn main() {
     println!("ns a call, median of {ROUNDS} rounds of {CALLS} calls each, in turn");
     println!("mix            profile    Rattle   C calls       (a)       (b)   / (a)   / (b)");
     let mut by_place = Vec::new();
-    for profile in [1, 3] {
+    for profile in [1, 3, 5] {
         let mixes = MIXES.iter().filter(|mix| mix.profiles.contains(&profile));
         by_place.extend(mixes.map(|mix| measure(mix, profile)));
     }

@@ -49,7 +49,7 @@ const MIXES: [Mix; 3] = [
 ];
 
 fn start(mix: &Mix) -> Start {
-    let mut state = sys::presscurlew_make(4, sys::DROP_OLDEST, 0).state;
+    let mut state = sys::presscurlew_make(4, sys::DROP_OLDEST, sys::Levels::NONE, 0).state;
     state = sys::presscurlew_sample_count(state, mix.busy, PROBES, 0).state;
     for id in [1, 2] {
         state = sys::presscurlew_offer(state, id, 0, mix.ontime, 60_000_000, 0).state;

@@ -77,9 +77,15 @@ fn full(i: u32) -> [u32; 5] {
 }
 
 fn start(profile: u32) -> Start {
+    // Profile 5's; the others look at none.
+    let level = sys::Level {
+        above: 500_000,
+        wait: 1_000_000,
+    };
+    let list = sys::Levels::of(100_000, &[level]);
     Start {
-        gate: sys::presscurlew_make(profile, sys::DROP_OLDEST, 0).state,
-        plain: plainhost::presscurlew_plain_make(profile, sys::DROP_OLDEST, 0).state,
+        gate: sys::presscurlew_make(profile, sys::DROP_OLDEST, list, 0).state,
+        plain: plainhost::presscurlew_plain_make(profile, sys::DROP_OLDEST, list, 0).state,
     }
 }
 
@@ -119,7 +125,7 @@ mod tests {
 
     #[test]
     fn sides_end_alike() {
-        for profile in 1..=4 {
+        for profile in 1..=5 {
             MIXES.iter().for_each(|mix| ends_alike(mix, profile));
         }
     }

@@ -43,7 +43,7 @@ impl End {
     fn call(&mut self, start: &Start, call: &Call) {
         let &[kind, a, b, c, d, stamp] = call;
         let turn = match kind {
-            0 => sys::presscurlew_make(a, b, stamp),
+            0 => sys::presscurlew_make(a, b, sys::Levels::NONE, stamp),
             1 => sys::presscurlew_sample_count(self.state, a, PROBES, stamp),
             2 => sys::presscurlew_offer(self.state, a, b, c, d, stamp),
             WORDS | COUNTED => {
@@ -215,7 +215,7 @@ fn samples() -> Samples {
 
 fn measure(mix: &Mix, profile: u32, samples: Samples) {
     let (row, name) = (row(mix), mix.name);
-    let state = sys::presscurlew_make(profile, sys::DROP_OLDEST, 0).state;
+    let state = sys::presscurlew_make(profile, sys::DROP_OLDEST, sys::Levels::NONE, 0).state;
     let sides: [Run<Start, End>; 3] = [calls, records, recorded_calls];
     let start = Start { state, samples };
     let [bare, log, both] = sides.map(|run| run(start, &row));

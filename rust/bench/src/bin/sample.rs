@@ -227,7 +227,7 @@ const SIDES: [Run<Start, End, Call>; 8] = [
 
 fn start(profile: u32, samples: &'static Samples) -> Start {
     Start {
-        archive: sys::presscurlew_make(profile, sys::DROP_OLDEST, 0).state,
+        archive: sys::presscurlew_make(profile, sys::DROP_OLDEST, sys::Levels::NONE, 0).state,
         plain: State::new(profile, sys::DROP_OLDEST, 0),
         samples,
     }

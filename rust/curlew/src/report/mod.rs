@@ -136,9 +136,9 @@ impl Gathered {
         self.told.sort();
     }
 
-    /// What was measured in a profile; one that there is not has no figures.
+    /// What was measured in a profile; one that there is not has no figures, nor has profile 5, of which there is no log.
     fn measured(&mut self, profile: u32) -> Option<&mut Measured> {
-        if !rules::profile_known(profile) {
+        if !rules::profile_known(profile) || rules::needs_list(profile) {
             return None;
         }
         let at = self.measured.iter().position(|one| one.profile == profile);

@@ -465,6 +465,30 @@ fn several_runs_each_have_a_verdict() {
     done.failed(1, "record 5 (poll at 8): IDLE, but there is no gate");
 }
 
+/// A log can't carry profile 5's list: its make is refused with 1, and starts no
+/// run.
+#[test]
+fn a_make_of_profile_5_is_refused_with_1() {
+    let log = log_of("make 5 at 0\npoll at 1\nmake 1 at 2\nmake 5 keep-oldest at 3\npoll at 4\n");
+    let out = answers(&log);
+    assert_eq!(
+        out,
+        "REFUSED 1\nREFUSED 9\nREADY\nREFUSED 1\nREFUSED 9\nEND\n"
+    );
+    let told = check(&log, &out).good().text();
+    assert!(told.contains("5 records in 1 run"), "{told}");
+    for (bad, words) in [
+        (
+            "REFUSED 15",
+            "the answer is REFUSED 15, the right one is REFUSED 1",
+        ),
+        ("READY", "the answer is READY, the right one is REFUSED 1"),
+    ] {
+        let bent = out.replacen("REFUSED 1", bad, 1);
+        check(&log, &bent).failed(1, &format!("record 1 (make 5 at 0): {words}"));
+    }
+}
+
 #[test]
 fn no_run_and_no_records() {
     check(b"", "END\n").good();

@@ -80,7 +80,8 @@ fn the_table_of_waits() {
     }
 }
 
-/// "The first row is 1.0105, .. in profile 2, .. and .. s in profile 4": k = 0 of the other profiles.
+/// "The first row is 1.0105, .. in profile 2, .. and .. s in profile 4": k = 0 of the other profiles; in profile 5 it is
+/// profile 1's.
 #[test]
 fn the_waits_of_the_other_profiles() {
     let words = label_words();
@@ -99,6 +100,13 @@ fn the_waits_of_the_other_profiles() {
             "the label does not say '{sentence}'"
         );
     }
+    for poll in ["10ms", "50ms", "100ms", "1s"] {
+        let wait = |profile| {
+            let options = ["--profile", profile, "--poll", poll];
+            said(&options, "A warning waits at most")
+        };
+        assert_eq!(wait("5"), wait("1"), "{poll}");
+    }
 }
 
 #[test]
@@ -110,7 +118,7 @@ fn the_table_of_trailers() {
         for line in &rows[1..6] {
             let options = ["--profile", "1", "--poll", &poll, "--messages", &line[0]];
             let what = format!("Trailers for {} messages a minute", line[0]);
-            for profile in ["1", "2", "3", "4"] {
+            for profile in ["1", "2", "3", "4", "5"] {
                 let options = [&["--profile", profile], &options[2..]].concat();
                 assert_eq!(said(&options, &what), line[at], "{options:?}");
             }
@@ -127,8 +135,9 @@ fn the_table_of_trailers() {
 fn the_figures_of_each_profile() {
     let rows = table("");
     let heads: Vec<&str> = rows[0][1..].iter().map(String::as_str).collect();
-    assert_eq!(heads, ["profile 1", "profile 2", "profile 3", "profile 4"]);
-    for (at, profile) in ["1", "2", "3", "4"].iter().enumerate() {
+    let due = ["1", "2", "3", "4", "5"].map(|profile| format!("profile {profile}"));
+    assert_eq!(heads, due);
+    for (at, profile) in ["1", "2", "3", "4", "5"].iter().enumerate() {
         let options = ["--profile", profile, "--poll", "50ms"];
         let told = |what| said(&options, what);
         let most = row(&rows, "messages a minute, polled every 50 ms, at least");
@@ -145,7 +154,7 @@ fn the_figures_of_each_profile() {
 #[test]
 fn the_most_of_each_profile() {
     let (stretches, figures) = (table("in any"), table(""));
-    for (at, profile) in ["1", "2", "3", "4"].iter().enumerate() {
+    for (at, profile) in ["1", "2", "3", "4", "5"].iter().enumerate() {
         for line in &stretches[1..] {
             let stretch = match line[0].as_str() {
                 "minute" => "60s".to_string(),
@@ -202,7 +211,7 @@ fn what_can_not_be_asked_is_refused() {
     curlew(&[&["label"], &good[..]].concat()).good();
     for (at, bad, why) in [
         (1, "0", "there is no profile 0"),
-        (1, "5", "there is no profile 5"),
+        (1, "6", "there is no profile 6"),
         (1, "4294967297", "there is no profile"),
         (1, "one", "--profile needs a number"),
         (3, "0", "--poll is 1 µs to 2,147,483,647 µs"),

@@ -356,6 +356,20 @@ fn an_offer_that_was_spent_is_named() {
     shown.failed(1, "REFUSED 11 SPENT");
 }
 
+/// A log's make never gets 15; an answer that says so is wrong, and named.
+#[test]
+fn a_make_of_profile_5_is_shown_as_refused() {
+    let folder = Folder::new();
+    let log = folder.file("five.log", log_of("make 5 at 0\npoll at 1\n"));
+    let text = curlew(&["show", &log]).good().text();
+    for words in ["REFUSED 1 ", "BAD-PROFILE", "REFUSED 9 NO-STATE", "no gate"] {
+        assert!(text.contains(words), "no '{words}' in: {text}");
+    }
+    let out = folder.file("bad.out", "REFUSED 15\nREFUSED 9\nEND\n");
+    let shown = curlew(&["show", &log, &out]);
+    shown.failed(1, "REFUSED 15 BAD-LIST");
+}
+
 #[test]
 fn answers_that_do_not_fit_end_it() {
     let log = example("sample", "log");
