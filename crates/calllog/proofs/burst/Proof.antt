@@ -25,12 +25,12 @@ use Rattle.calllog.proofs.burst.Statement.{statement}
 use Rattle.calllog.proofs.burst.Tie as tie
 
 abbrev Inv-loop : tie.InvT-loop
-Inv-loop state₀ records answers₀ sound number n i₀ state answers i =
-    (i ≤ n) × (length answers ≡ length answers₀) × (state ≡ offeredTo state₀ records i)
-    × (answers ≡ written answers₀ 0 (answersTo state₀ records i)) × (sound ≡ soundState state)
+Inv-loop records answers₀ sound number state₀ n i₀ answers reached i =
+    (i ≤ n) × (length answers ≡ length answers₀) × (reached ≡ offeredTo state₀ records i)
+    × (answers ≡ written answers₀ 0 (answersTo state₀ records i)) × (sound ≡ soundState reached)
 
 abbrev μ-loop : tie.MeasureT-loop
-μ-loop state₀ records answers₀ sound number n i₀ state answers i = n - i
+μ-loop records answers₀ sound number state₀ n i₀ answers reached i = n - i
 
 is-sound-requires : tie.Need-is-sound-requires Inv-loop μ-loop
 is-sound-requires c κs = search needs
@@ -68,15 +68,15 @@ step-sound-requires c κs =
 done :
     (c : tie.Joined2 Inv-loop μ-loop)
     → let l = c .before .before .before .before .loop in
-    (outcome (c .if2 .state) (c .if2 .answer) ≡ offeredBy (l .state) (c .before .before .read-record .result))
-    × (c .before .before .before .before .before .before .before .is-sound .result ≡ soundState (c .if2 .state))
+    (outcome (c .if2 .reached) (c .if2 .answer) ≡ offeredBy (l .reached) (c .before .before .read-record .result))
+    × (c .before .before .before .before .before .before .before .is-sound .result ≡ soundState (c .if2 .reached))
 done c =
     let l = c .before .before .before .before .loop in
-    let met = l .state in
+    let met = l .reached in
     let rec = c .before .before .read-record .result in
     ⊎-elim
     (λ way.
-    let reached : c .if2 .state ≡ way .3 .result .state = way .5 in (
+    let reached : c .if2 .reached ≡ way .3 .result .state = way .5 in (
       ap₂ outcome reached (way .6) ∙ way .3 .ensures ∙ sym (step-call met rec _ (way .2 .ensures))
           ∙ step-call met rec _ (asks-offer rec (way .0 .taken)) ∙ sym (offered-call met rec (way .0 .taken)),
       way .1 .taken ∙ sym (call-keeps _ met _ (way .3 .ensures) (sym (l .inv .4) ∙ way .1 .taken)) ∙ ap soundState (sym reached),
@@ -128,7 +128,7 @@ loop-again c =
     let given = s .args .state in
     let answers = now (s .args .answers) in
     let rec = c .before .before .before .read-record in
-    let e : outcome (c .before .if2 .state) (c .before .if2 .answer) ≡ offeredAt (offeredTo given records i) records i =
+    let e : outcome (c .before .if2 .reached) (c .before .if2 .answer) ≡ offeredAt (offeredTo given records i) records i =
     done (c .before) .0 ∙ ap₂ offeredBy (l .inv .2) (rec .ensures) in
     let told = record-told (offeredTo given records i) (recordAt records (recordBytes * i)) in
     let byte : c .answer-byte .result ≡ answerByte (offeredAt (offeredTo given records i) records i .answer) =
