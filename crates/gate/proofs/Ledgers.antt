@@ -21,9 +21,10 @@ use Rattle.ledger.proofs.Sound.{same-ledger, tidy-length}
 use Rattle.ledger.proofs.Meaning.{AllFitting, read-fitting, packed-forty, young-fitting, notedIn, noted-packed}
 use Rattle.ledger.proofs.Settling.{Ordered, droppedTo, few, old-most, old-dropped, left-movable}
 use Rattle.decide.specs.declared.Plan.{Plan}
+use Rattle.request.specs.Plans.{popsIn, notedBy, agedBy}
 use Rattle.gate.specs.declared.State.{State}
 use Rattle.gate.specs.Layout.{viewOf, LaidOut, allTidy, soundState}
-use Rattle.gate.specs.Plans.{popsIn, notedBy, agedBy, noted, settled}
+use Rattle.gate.specs.Plans.{noted, settled}
 use Rattle.gate.proofs.Judged.{sound-view}
 
 pub tidy-few : (s : State) → soundState s ≡ true → s .rows .ledger .len ≤ places

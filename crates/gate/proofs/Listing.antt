@@ -18,11 +18,12 @@ use Rattle.machine.specs.Moves.{levelAfter, movedBy}
 use Rattle.machine.proofs.Noted.{loads-packed}
 use Rattle.control.specs.Control.{Control, tuned, movedIn, loadsAfter}
 use Rattle.control.specs.Wait.{waitWith, listedWait, closedWith, closedAfter}
+use Rattle.request.specs.declared.Request.{Request}
+use Rattle.request.specs.declared.Request.the-variants.{Count, Offered, Poll}
+use Rattle.request.specs.Plans.{loadsNoted, loadIn}
 use Rattle.gate.specs.declared.State.{State}
-use Rattle.gate.specs.declared.Request.{Request}
-use Rattle.gate.specs.declared.Request.the-variants.{Count, Offered, Poll}
 use Rattle.gate.specs.Layout.{controlOn}
-use Rattle.gate.specs.Plans.{loadsNoted, loadIn, loadsOn, movedOn}
+use Rattle.gate.specs.Plans.{loadsOn, movedOn}
 
 -- of five the last is not asked for in the first four profiles
 last-unasked : (profile a b c d x y : ℕ) → isProfile profile ≡ true → eqb profile 5 ≡ false

@@ -13,12 +13,11 @@ use Rattle.queue.specs.declared.Review.{Review}
 use Rattle.queue.specs.Layout.{items, soundQueue}
 use Rattle.queue.specs.Reviews.{nothingSeen, queueSeen}
 use Rattle.queue.proofs.Reviewing.{and-assoc, seen-fit, seen-waiting, seen-few}
+use Rattle.request.specs.declared.Verdict.{Verdict}
+use Rattle.request.specs.declared.Verdict.the-variants.{Sound, Unsound, Open}
+use Rattle.request.specs.Verdicts.{soundQueues, firstToSee}
 use Rattle.gate.specs.declared.State.{State}
-use Rattle.gate.specs.declared.Verdict.{Verdict}
-use Rattle.gate.specs.declared.Verdict.the-variants.{Sound, Unsound, Open}
 use Rattle.gate.specs.Layout.{queueAt}
-use Rattle.gate.specs.Requests.{soundQueues}
-use Rattle.gate.specs.Plans.{firstToSee}
 use Rattle.gate.proofs.States.{next-queue, no-queue, waitingTo, waiting-more, waiting-none, waiting-all, sound-len}
 use Rattle.gate.proofs.Judged.{Reviewed}
 

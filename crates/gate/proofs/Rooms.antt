@@ -22,13 +22,14 @@ use Rattle.decide.specs.declared.Found.{Found}
 use Rattle.decide.specs.declared.Found.the-variants.{Nothing, At}
 use Rattle.decide.specs.declared.Plan.{Plan}
 use Rattle.decide.specs.Plans.{keepsQueues, joining, offerPlan, sentPlan, pollPlan}
+use Rattle.request.specs.declared.Request.{Request}
+use Rattle.request.specs.declared.Request.the-variants.{Count, Offered, Poll}
+use Rattle.request.specs.Requests.{callOf}
+use Rattle.request.specs.Plans.{movedTo, requestPlan, planFrom, popsIn}
 use Rattle.gate.specs.declared.State.{State}
 use Rattle.gate.specs.declared.Outcome.{Outcome}
-use Rattle.gate.specs.declared.Request.{Request}
-use Rattle.gate.specs.declared.Request.the-variants.{Count, Offered, Poll}
 use Rattle.gate.specs.Layout.{LaidOut, callOn}
-use Rattle.gate.specs.Requests.{callOf, refusalOn}
-use Rattle.gate.specs.Plans.{movedTo, requestPlan, planFrom, planOn, popsIn, noted, settled, done}
+use Rattle.gate.specs.Plans.{refusalOn, planOn, noted, settled, done}
 use Rattle.gate.proofs.Judged.{judged-sound, sound-view}
 use Rattle.gate.proofs.Doing.{call-done}
 use Rattle.gate.proofs.Ledgers.{tidy-few, ordered, Settling}

@@ -22,9 +22,9 @@ use Rattle.queue.specs.declared.Queue.{Queue}
 use Rattle.queue.specs.Layout.{items, packed, Packed, tidy, soundQueue}
 use Rattle.model.specs.Ledger.{ledgerRules}
 use Rattle.ledger.specs.Layout as ledger
+use Rattle.request.specs.Verdicts.{soundQueues}
 use Rattle.gate.specs.declared.State.{State}
 use Rattle.gate.specs.Layout.{noQueue, queueAt, listsOf, queuesOf, rowsOf, stateFrom, numbersOf, LaidOut, soundState}
-use Rattle.gate.specs.Requests.{soundQueues}
 use Rattle.gate.specs.Plans.{leftToJudge}
 use lib.Dec.{leb, eqb}
 

@@ -12,9 +12,9 @@ use Rattle.rules.specs.Profiles.{within}
 use Rattle.rules.specs.Samples.{wordsFor, sampleOf, goodProbes, badCount}
 use Rattle.rules.proofs.Cases.{split}
 use Rattle.model.specs.Calls.{words}
+use Rattle.request.specs.Requests.{callOf}
 use Rattle.gate.specs.declared.State.{State}
 use Rattle.gate.specs.Layout.{callOn}
-use Rattle.gate.specs.Requests.{callOf}
 use Rattle.gate.proofs.Sampling.{words-busy, words-bad}
 use Rattle.samples.specs.Words.{startOf, isCut, wordsAt, callAt, requestOf, requestAt}
 

@@ -9,9 +9,9 @@ use Rattle.rules.specs.declared.Sample.{Sample}
 use Rattle.rules.specs.declared.Sample.the-variants.{Busy, Bad}
 use Rattle.rules.specs.Samples.{wordsFor, sampleOf}
 use Rattle.model.specs.Calls.{Call, words, count}
+use Rattle.request.specs.declared.Request.{Request}
+use Rattle.request.specs.declared.Request.the-variants.{Count}
 use Rattle.gate.specs.declared.State.{State}
-use Rattle.gate.specs.declared.Request.{Request}
-use Rattle.gate.specs.declared.Request.the-variants.{Count}
 use Rattle.gate.specs.Layout.{callOn}
 
 -- where sample k starts, each having "just enough words"

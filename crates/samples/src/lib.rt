@@ -4,8 +4,8 @@ ghost use mathlib.Core.Path.{_≡_};
 ghost use Prim.Native.Nat.{_/_};
 ghost use lib.ListN.{length};
 ghost use Rattle.samples.specs.Words.{requestAt, stateAfter};
-use gate::Request;
 use gate::State;
+use request::Request;
 use rules::Sample;
 
 // What sample k asks, of samples laid one behind the other. A bad one goes by a count that is as bad, a busy

@@ -6,11 +6,11 @@ use native.Mathlib.Numerals.{add-one}
 use native.Mathlib.Omega.{arith}
 use lib.ListN.{length, getD}
 use borrow.Author.Needs.{needs}
+use Rattle.request.specs.declared.Request.{Request}
+use Rattle.request.specs.Requests.{callOf}
 use Rattle.gate.specs.declared.State.{State}
 use Rattle.gate.specs.declared.Outcome.{Outcome}
-use Rattle.gate.specs.declared.Request.{Request}
 use Rattle.gate.specs.Layout.{callOn}
-use Rattle.gate.specs.Requests.{callOf}
 use Rattle.samples.specs.Words.{callAt, stateAfter}
 use Rattle.samples.proofs.Asking.{asks}
 use Rattle.samples.proofs.presscurlew_run_words.Statement.{statement}

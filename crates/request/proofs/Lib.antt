@@ -1,0 +1,2 @@
+-- Laws of what a request decides on.
+pub mod Polling

@@ -1,0 +1,4 @@
+-- What a call asks, what refuses it, and what it is to do.
+pub mod Requests
+pub mod Plans
+pub mod Verdicts
