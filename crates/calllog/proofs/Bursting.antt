@@ -17,9 +17,9 @@ use Rattle.gate.specs.declared.Outcome.{Outcome}
 use Rattle.gate.specs.Layout.{viewOf, soundState, callOn, makeState}
 use Rattle.gate.specs.Runs.{stateAfter, eventsOn, PollsRight, journalOn, StateRun}
 use Rattle.gate.proofs.Runs.{make-runs}
-use Rattle.calllog.specs.declared.Record.{Record}
-use Rattle.calllog.specs.Records.{recordBytes, recordAt}
-use Rattle.calllog.specs.Buffers.{written}
+use Rattle.records.specs.declared.Record.{Record}
+use Rattle.records.specs.Records.{recordBytes, recordAt}
+use Rattle.records.specs.Buffers.{written}
 use Rattle.calllog.specs.Bursts.{isOffer, offerOf, offeredBy, answerByte, offeredTo, answersTo, isAccepted, recordsIn}
 use Rattle.calllog.specs.Bursts.{burstState, burstAnswers, offersTo, answerOf, heardTo, AsSingleCalls, BurstsAreSingleCalls}
 use Rattle.calllog.specs.Bursts.{Move, one, burst, moved, callsOf, heardOf, movedAll, allCalls, allHeard}

@@ -23,9 +23,9 @@ use Rattle.model.specs.Gate.{checks, call}
 use Rattle.gate.specs.declared.State.{State}
 use Rattle.gate.specs.declared.Outcome.{Outcome}
 use Rattle.gate.specs.Layout.{viewOf, soundState, outcome, callOn}
-use Rattle.calllog.specs.declared.Record.{Record}
-use Rattle.calllog.specs.Records.{recordBytes}
-use Rattle.calllog.specs.Buffers.{written}
+use Rattle.records.specs.declared.Record.{Record}
+use Rattle.records.specs.Records.{recordBytes}
+use Rattle.records.specs.Buffers.{written}
 use Rattle.calllog.specs.Bursts.{offerOf, offeredBy, answerByte, offeredAt, offeredTo, answersTo, burstNumber, answerOf}
 
 pub offered-call : (s : State) (rec : Record) → rec .kind ≡ 2 → offeredBy s rec ≡ callOn s (offerOf rec)

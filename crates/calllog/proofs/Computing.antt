@@ -5,9 +5,9 @@ use Rattle.model.proofs.Computing.{of-runs}
 use Rattle.queue.specs.Layout.{packed}
 use Rattle.ledger.specs.Layout as ledger
 use Rattle.gate.specs.Layout.{soundState, callOn, makeState}
-use Rattle.calllog.specs.Records.{twoAt, fourAt, recordAt, probesIn, profileIn, askedBy}
+use Rattle.records.specs.Records.{twoAt, fourAt, recordAt, probesIn, profileIn, askedBy}
+use Rattle.lines.specs.Lines.{digitsIn, decimal, lineOf, lastLine}
 use Rattle.calllog.specs.Steps.{stepOn}
-use Rattle.calllog.specs.Lines.{digitsIn, decimal, lineOf, lastLine}
 use Rattle.calllog.specs.Bursts.{offeredBy, answerByte, offeredTo, answersTo}
 use Rattle.calllog.specs.Bursts.{burstNumber, burstState, burstAnswers}
 use Rattle.calllog.specs.Text.{reachedFrom, linesFrom, outputFrom}

@@ -8,8 +8,8 @@ use borrow.Author.Tests.{leb-true, lt-leb}
 use lib.Dec.{leb}
 use lib.ListN.{length}
 use Rattle.gate.specs.declared.State.{State}
-use Rattle.calllog.specs.Records.{recordBytes}
-use Rattle.calllog.specs.Lines.{lastLine}
+use Rattle.records.specs.Records.{recordBytes}
+use Rattle.lines.specs.Lines.{lastLine}
 use Rattle.calllog.specs.Text.{reachedFrom, linesFrom, outputFrom, recordsDone}
 use Rattle.calllog.specs.Text.{block, blockBytes, blockRoom, goesOn, turnText, Whole}
 use Rattle.calllog.specs.Text.{turns, oneLog, AllFull, TurnsAreTheProgram}

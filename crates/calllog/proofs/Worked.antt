@@ -4,48 +4,19 @@ use mathlib.Core.Path.{_≡_, refl}
 use mathlib.Core.List.{List, [], _∷_, _++_, map}
 use lib.ListN.{replicate}
 use Rattle.machine.specs.Levels.{noLevels}
-use Rattle.model.specs.declared.Answer.{Answer}
-use Rattle.model.specs.declared.Answer.the-variants.{Ready, Taken, Sent, Idle, Closed, Refused}
-use Rattle.model.specs.declared.Packet.{Packet}
-use Rattle.model.specs.Calls.{Call, count, offer, poll, makingOf}
+use Rattle.model.specs.declared.Answer.the-variants.{Ready, Refused}
+use Rattle.model.specs.Calls.{Call, offer, makingOf}
 use Rattle.gate.specs.declared.State.{State}
 use Rattle.gate.specs.declared.Outcome.{Outcome}
 use Rattle.gate.specs.Layout.{outcome, callOn, makeState}
-use Rattle.calllog.specs.declared.Record.{Record}
-use Rattle.calllog.specs.Records.{twoAt, fourAt, recordAt, makes, calls, unknown, probesIn, profileIn, askedBy}
+use Rattle.records.specs.declared.Record.{Record}
+use Rattle.records.specs.Records.{profileIn, askedBy}
+use Rattle.records.proofs.Worked.{ofKind}
+use Rattle.lines.specs.Lines.{ascii}
 use Rattle.calllog.specs.Steps.{atStart, stepOn}
-use Rattle.calllog.specs.Lines.{ascii, digitsIn, decimal, lineOf, lastLine}
 use Rattle.calllog.specs.Text.{outputOf, recordsDone, blockRoom}
 use Rattle.calllog.specs.Bursts.{burstNumber, burstState, burstAnswers}
 use Rattle.calllog.proofs.Computing.{of-states, of-logs, of-bursts}
-
--- "kind (1), priority (1), on-time (2), lifetime (4), identifier (4), stamp (4)", low byte first, from any place
-sixteen : List ℕ
-sixteen = 1 ∷ 2 ∷ 3 ∷ 4 ∷ 5 ∷ 6 ∷ 7 ∷ 8 ∷ 9 ∷ 10 ∷ 11 ∷ 12 ∷ 13 ∷ 14 ∷ 15 ∷ 16 ∷ []
-
-counted : Record
-counted =
-    record { kind = 1; priority = 2; ontime = 1027; lifetime = 134678021; id = 202050057; stamp = 269422093 }
-
-fields : (recordAt sixteen 0 ≡ counted) × (recordAt (90 ∷ 91 ∷ sixteen) 2 ≡ counted)
-unfolding sixteen counted recordAt fourAt twoAt
-fields = (refl, refl)
-
--- each kind; the busy count is the whole identifier field, over 16 bits too
-ofKind : ℕ → Record
-ofKind kind = record { kind = kind; priority = 2; ontime = 400; lifetime = 1; id = 65541; stamp = 9 }
-
-kinds :
-    map (λ (kind : ℕ). askedBy (ofKind kind)) (0 ∷ 1 ∷ 2 ∷ 3 ∷ 4 ∷ 255 ∷ [])
-    ≡ makes (makingOf 2 1 noLevels 9)
-    ∷ calls (count 9 65541 1)
-    ∷ calls (offer 9 (record { id = 65541; priority = 2; ontime = 400; lifetime = 1 }))
-    ∷ calls (poll 9)
-    ∷ unknown
-    ∷ unknown
-    ∷ []
-unfolding probesIn profileIn askedBy ofKind
-kinds = refl
 
 -- "A kind above 3 gets BAD-CALL": 10, and the state as it was
 unknown-kind : (s : State) → stepOn s (ofKind 4) ≡ outcome s (Refused 10)
@@ -71,11 +42,6 @@ refused-make : (s : State)
 unfolding of-states of-logs making
 refused-make s = refl
 
--- 5 is asked for as 0, every other profile as it is
-profiles : map profileIn (0 ∷ 1 ∷ 4 ∷ 5 ∷ 6 ∷ 255 ∷ []) ≡ 0 ∷ 1 ∷ 4 ∷ 0 ∷ 6 ∷ 255 ∷ []
-unfolding profileIn
-profiles = refl
-
 -- "any other number is refused with 1" (document 02, W-205): a lifetime field of 2, and one that is 0 or 1 in its low byte
 refused-way : (s : State)
     → (stepOn s (making 1 2) ≡ outcome atStart (Refused 1)) × (stepOn s (making 1 256) ≡ outcome atStart (Refused 1))
@@ -89,35 +55,6 @@ nine = outcome atStart (Refused 9)
 before-make : map (λ (kind : ℕ). stepOn atStart (ofKind kind)) (1 ∷ 2 ∷ 3 ∷ []) ≡ nine ∷ nine ∷ nine ∷ []
 unfolding of-states of-logs ofKind nine
 before-make = refl
-
--- "in decimal without leading zeros"
-digits :
-    map decimal (0 ∷ 7 ∷ 10 ∷ 49200 ∷ 18446744073709551615 ∷ [])
-    ≡ map ascii ("0" ∷ "7" ∷ "10" ∷ "49200" ∷ "18446744073709551615" ∷ [])
-unfolding decimal digitsIn
-digits = refl
-
--- a line for each answer: SENT has the identifier
-sent : Packet
-sent = record { id = 8; priority = 1; ontime = 400; lifetime = 60000; arrival = 100 }
-
-lines :
-    map lineOf (Ready ∷ Taken ∷ Sent sent ∷ Idle ∷ Closed 49600 ∷ Refused 2 ∷ [])
-    ≡ map ascii ("READY\n" ∷ "TAKEN\n" ∷ "SENT 8\n" ∷ "IDLE\n" ∷ "CLOSED 49600\n" ∷ "REFUSED 2\n" ∷ [])
-unfolding of-logs sent
-lines = refl
-
--- "END, or TORN if 1 to 15 bytes are left over"
-last-lines :
-    map lastLine (0 ∷ 1 ∷ 15 ∷ 16 ∷ 17 ∷ 32 ∷ [])
-    ≡ map ascii ("END\n" ∷ "TORN\n" ∷ "TORN\n" ∷ "END\n" ∷ "TORN\n" ∷ "END\n" ∷ [])
-unfolding lastLine
-last-lines = refl
-
--- "a sample's lifetime field is the probe count, where 0 still means 1,000" (W-208), whatever it is worth
-probe-counts : map probesIn (0 ∷ 1 ∷ 1000 ∷ 12500 ∷ 20000 ∷ 4294967295 ∷ []) ≡ 1000 ∷ 1 ∷ 1000 ∷ 12500 ∷ 20000 ∷ 4294967295 ∷ []
-unfolding probesIn
-probe-counts = refl
 
 -- records in their order: an unknown kind, a make, samples of 65,541 busy probes, of 2 of 3, and of 0 of 20,000, and three bytes
 log : List ℕ

@@ -17,9 +17,9 @@ use Rattle.gate.specs.declared.State.{State}
 use Rattle.gate.specs.declared.Outcome.{Outcome}
 use Rattle.gate.specs.Layout.{viewOf, soundState, outcome, callOn, makeState}
 use Rattle.gate.specs.Runs.{stateAfter, eventsOn, PollsRight}
-use Rattle.calllog.specs.declared.Record.{Record}
-use Rattle.calllog.specs.Records.{recordBytes, recordAt, offerIn}
-use Rattle.calllog.specs.Buffers.{written}
+use Rattle.records.specs.declared.Record.{Record}
+use Rattle.records.specs.Records.{recordBytes, recordAt, offerIn}
+use Rattle.records.specs.Buffers.{written}
 
 -- "log records of kind 2"
 abbrev pub isOffer : Record → Bool

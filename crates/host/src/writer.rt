@@ -2,8 +2,8 @@
 // W-206).
 ghost use Rattle.machine.specs.Levels.{noLevels};
 ghost use Rattle.model.specs.Calls.{words, count, offer, poll, makingOf};
-ghost use Rattle.calllog.specs.Records.{makes, calls};
-ghost use Rattle.calllog.specs.Writing.{Wrote};
+ghost use Rattle.records.specs.Records.{makes, calls};
+ghost use Rattle.records.specs.Writing.{Wrote};
 use model::Offer;
 
 // Writes a make; gives 0, or the refusal, which writes nothing. `oldway` is 1 for the old way, 0 for the new.
@@ -19,7 +19,7 @@ pub extern "C" fn presscurlew_write_make(
     ensures { λ r. ⌜ Wrote (now (log .entry)) at
         (makes (makingOf profile oldway noLevels stamp)) r (now (log .exit)) ⌝ }
 {
-    calllog::writer::write_make(profile, oldway, stamp, log, at)
+    records::writer::write_make(profile, oldway, stamp, log, at)
 }
 
 // Writes a sample of so many probes by words, as the one by its busy count.
@@ -34,7 +34,7 @@ pub extern "C" fn presscurlew_write_sample_words(
     ensures { λ r. ⌜ Wrote (now (log .entry)) at (calls (words stamp probes (now (ws .entry)))) r
         (now (log .exit)) ⌝ }
 {
-    calllog::writer::write_sample_words(probes, ws, stamp, log, at)
+    records::writer::write_sample_words(probes, ws, stamp, log, at)
 }
 
 // Writes a sample by its busy count, of so many probes.
@@ -48,7 +48,7 @@ pub extern "C" fn presscurlew_write_sample_count(
 ) -> u32
     ensures { λ r. ⌜ Wrote (now (log .entry)) at (calls (count stamp busy probes)) r (now (log .exit)) ⌝ }
 {
-    calllog::writer::write_sample_count(busy, probes, stamp, log, at)
+    records::writer::write_sample_count(busy, probes, stamp, log, at)
 }
 
 // Writes an offer.
@@ -72,7 +72,7 @@ pub extern "C" fn presscurlew_write_offer(
         ontime,
         lifetime,
     };
-    calllog::writer::write_offer(o, stamp, log, at)
+    records::writer::write_offer(o, stamp, log, at)
 }
 
 // Writes a poll.
@@ -80,5 +80,5 @@ pub extern "C" fn presscurlew_write_offer(
 pub extern "C" fn presscurlew_write_poll(stamp: u32, log: &mut [u8], at: usize) -> u32
     ensures { λ r. ⌜ Wrote (now (log .entry)) at (calls (poll stamp)) r (now (log .exit)) ⌝ }
 {
-    calllog::writer::write_poll(stamp, log, at)
+    records::writer::write_poll(stamp, log, at)
 }

@@ -4,10 +4,11 @@ use Prim.Native.Nat.{ℕ}
 use mathlib.Core.Path.{_≡_, refl, ap, sym, _∙_}
 use mathlib.Core.Bool.{Bool, true, false, cond, not}
 use mathlib.Core.List.{List}
+use Rattle.rules.specs.declared.Sample.the-variants.{Busy, Bad}
 use Rattle.rules.specs.Clock.{stepOf, goesBack, passesEnd}
 use Rattle.rules.specs.Refusals.{firstOf}
 use Rattle.rules.specs.Samples.{busyOf, goodWords, sampleOf, sampleNumber, badCount}
-use Rattle.rules.proofs.Cases.{split}
+use Rattle.rules.proofs.Cases.{split, clash}
 use Rattle.rules.proofs.Probes.{words-count}
 use Rattle.model.specs.Packets.{Holding}
 use Rattle.model.specs.Calls.{words, count}
@@ -65,3 +66,17 @@ pub words-number : {h : Holding} (v : Status h) (stamp probes : ℕ) (ws : List 
     → firstOf (ownChecks v (words stamp probes ws)) ≡ sampleNumber (sampleOf probes ws)
 unfolding firstOf sampleOf sampleNumber
 words-number v stamp probes ws = split (goodWords probes ws) (λ e. rw e refl) (λ e. rw e refl)
+
+-- what reading a sample says
+pub read-good : (probes : ℕ) (ws : List ℕ) (busy : ℕ) → sampleOf probes ws ≡ Busy busy
+    → (goodWords probes ws ≡ true) × (busyOf ws probes ≡ busy)
+unfolding sampleOf
+read-good probes ws busy e =
+    split (goodWords probes ws)
+    (λ g. let f : Busy (busyOf ws probes) ≡ Busy busy = rw g at e in (g, cc))
+    (λ g. let f : Bad ≡ Busy busy = rw g at e in clash (cc))
+
+pub read-bad : (probes : ℕ) (ws : List ℕ) → sampleOf probes ws ≡ Bad → goodWords probes ws ≡ false
+unfolding sampleOf
+read-bad probes ws e =
+    split (goodWords probes ws) (λ g. let f : Busy (busyOf ws probes) ≡ Bad = rw g at e in clash (cc)) (λ g. g)

@@ -12,7 +12,7 @@ use Rattle.model.specs.Calls.{offer, isRefused}
 use Rattle.model.specs.Effects.{Result, effect}
 use Rattle.model.specs.Gate.{checks, call}
 use Rattle.line.specs.Line.{inList, Listed}
-use Rattle.calllog.specs.declared.Record.{Record}
+use Rattle.records.specs.declared.Record.{Record}
 use Rattle.calllog.specs.Bursts.{isOffer, answerByte}
 use Rattle.calllog.proofs.Bursts.{first-small}
 use Rattle.plain.specs.declared.State.{State}

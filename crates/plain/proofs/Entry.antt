@@ -17,8 +17,7 @@ use Rattle.model.specs.State.{sound}
 use Rattle.model.specs.Effects.{Result, stepped, refreshed, effect}
 use Rattle.model.specs.Gate.{ownChecks, checks, unlessRefused, call}
 use Rattle.model.proofs.Refusals.{effect-accepts}
-use Rattle.model.proofs.Sampling.{good-alike, bad-alike}
-use Rattle.gate.proofs.Sampling.{read-good, read-bad}
+use Rattle.model.proofs.Sampling.{read-good, read-bad, good-alike, bad-alike}
 use Rattle.line.specs.Line.{inList, Listed}
 use Rattle.line.proofs.Agree.{refreshed-list}
 use Rattle.plain.specs.declared.State.{State}

@@ -29,9 +29,9 @@ use Rattle.gate.specs.Layout as gate
 use Rattle.gate.specs.Runs as gate-specs
 use Rattle.gate.proofs.Views as gate-views
 use Rattle.gate.proofs.Runs as gate-runs
-use Rattle.calllog.specs.declared.Record.{Record}
-use Rattle.calllog.specs.Records.{recordBytes, recordAt}
-use Rattle.calllog.specs.Buffers.{written}
+use Rattle.records.specs.declared.Record.{Record}
+use Rattle.records.specs.Records.{recordBytes, recordAt}
+use Rattle.records.specs.Buffers.{written}
 use Rattle.calllog.specs.Bursts.{isOffer, offerOf, answerByte, isAccepted, recordsIn, heardTo, Move, one, burst}
 use Rattle.calllog.specs.Bursts as gate-bursts
 use Rattle.calllog.proofs.Bursting.{runs-with-bursts}

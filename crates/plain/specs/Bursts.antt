@@ -6,9 +6,9 @@ use mathlib.Core.List.{List, [], _∷_, _++_}
 use Rattle.model.specs.declared.Answer.{Answer}
 use Rattle.model.specs.declared.Answer.the-variants.{Refused}
 use Rattle.model.specs.Calls.{Call}
-use Rattle.calllog.specs.declared.Record.{Record}
-use Rattle.calllog.specs.Records.{recordBytes, recordAt}
-use Rattle.calllog.specs.Buffers.{written}
+use Rattle.records.specs.declared.Record.{Record}
+use Rattle.records.specs.Records.{recordBytes, recordAt}
+use Rattle.records.specs.Buffers.{written}
 use Rattle.calllog.specs.Bursts.{isOffer, offerOf, answerByte, isAccepted, recordsIn, heardTo}
 use Rattle.calllog.specs.Bursts.{Move, one, burst}
 use Rattle.plain.specs.declared.State.{State}

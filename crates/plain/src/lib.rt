@@ -25,7 +25,6 @@ ghost use Rattle.plain.specs.Layout.{controlOn, makeState, entryNumber, 
 ghost use Rattle.plain.specs.Bursts.{offeredBy, burstState, burstAnswers};
 ghost use Rattle.calllog.specs.Bursts.{burstNumber};
 ghost use Rattle.plain.specs.Runs.{Agrees};
-use calllog::Record;
 use control::Tuning;
 use ledger::Ledger;
 use line::Line;
@@ -37,6 +36,8 @@ use model::Counts;
 use model::Last;
 use model::Offer;
 use model::Packet;
+use records::RECORD_BYTES;
+use records::Record;
 use rules::Sample;
 
 // One engine's state. `oldway` is 1 where an offer of a priority of which five wait is refused, 0 where it
@@ -423,10 +424,10 @@ pub fn burst(mut state: State, records: &[u8], answers: &mut [u8]) -> BurstTurn
     if number != 0 {
         return BurstTurn { state, number };
     }
-    let n = records.len() / calllog::RECORD_BYTES;
+    let n = records.len() / RECORD_BYTES;
     let mut i: usize = 0;
     while i < n {
-        let rec = calllog::record_at(records, calllog::RECORD_BYTES * i);
+        let rec = records::record_at(records, RECORD_BYTES * i);
         let outcome = offered(state, rec);
         let next = outcome.state;
         let answer = outcome.answer;

@@ -7,10 +7,10 @@ use native.Mathlib.Omega.{arith}
 use borrow.Author.Tests.{leb-true}
 use lib.ListN.{length, length-append}
 use Rattle.gate.specs.declared.State.{State}
+use Rattle.records.specs.Records.{recordBytes}
+use Rattle.records.specs.Buffers.{Put}
 use Rattle.calllog.specs.declared.Progress.{Progress}
-use Rattle.calllog.specs.Records.{recordBytes}
 use Rattle.calllog.specs.Steps.{atStart}
-use Rattle.calllog.specs.Buffers.{Put}
 use Rattle.calllog.specs.Text.{reachedFrom, blockBytes, goesOn, turnText, Whole}
 use Rattle.calllog.proofs.Pieces.{state-past}
 use Rattle.replay.specs.Program.{Turned, Reached}

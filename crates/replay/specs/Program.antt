@@ -6,10 +6,10 @@ use mathlib.Core.Bool.{Bool, true}
 use mathlib.Core.List.{List}
 use lib.ListN.{length}
 use Rattle.gate.specs.declared.State.{State}
+use Rattle.records.specs.Records.{recordBytes}
+use Rattle.records.specs.Buffers.{Put}
 use Rattle.calllog.specs.declared.Progress.{Progress}
-use Rattle.calllog.specs.Records.{recordBytes}
 use Rattle.calllog.specs.Steps.{atStart}
-use Rattle.calllog.specs.Buffers.{Put}
 use Rattle.calllog.specs.Text.{reachedFrom, blockBytes, turnText}
 
 -- a piece was read and done on a state: all its whole records, and its text lies in the buffer; the program

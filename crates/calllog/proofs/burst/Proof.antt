@@ -12,11 +12,12 @@ use denote.Ref.{now}
 use lib.ListN.{length, set, length-set}
 use Rattle.gate.specs.declared.Outcome.{Outcome}
 use Rattle.gate.specs.Layout.{soundState, outcome}
-use Rattle.calllog.specs.Records.{recordBytes, recordAt}
-use Rattle.calllog.specs.Buffers.{written}
+use Rattle.records.specs.Records.{recordBytes, recordAt}
+use Rattle.records.specs.Buffers.{written}
+use Rattle.records.proofs.Asking.{asks-offer}
 use Rattle.calllog.specs.Bursts.{offeredBy, answerByte, offeredAt, offeredTo, answersTo}
 use Rattle.calllog.specs.Bursts.{burstNumber, isAccepted, burstState, burstAnswers}
-use Rattle.calllog.proofs.Asking.{asks-offer, step-call}
+use Rattle.calllog.proofs.Asking.{step-call}
 use Rattle.calllog.proofs.Soundness.{call-keeps}
 use Rattle.calllog.proofs.Bursts.{offered-call, offered-other, offered-unsound, record-told, fits, answers-length}
 use Rattle.calllog.proofs.Bursts.{has-room, behind}

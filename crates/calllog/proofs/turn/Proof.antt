@@ -8,10 +8,10 @@ use borrow.Author.Tests.{not-true, not-false}
 use denote.Ref.{now}
 use lib.ListN.{length}
 use Rattle.io.proofs.Counting.{counts}
-use Rattle.calllog.specs.Buffers.{Put}
+use Rattle.records.specs.Buffers.{Put}
+use Rattle.records.proofs.Buffers.{next}
+use Rattle.lines.proofs.Lengths.{last-le}
 use Rattle.calllog.specs.Text.{recordsDone, blockRoom, goesOn, turnText}
-use Rattle.calllog.proofs.Buffers.{next}
-use Rattle.calllog.proofs.Lengths.{last-le}
 use Rattle.calllog.proofs.Turns.{lines, no-last, unread, ended, room-for-last, whole}
 use borrow.Author.Needs.{needs}
 use Rattle.calllog.proofs.turn.Statement.{statement}

@@ -7,10 +7,10 @@ use native.Mathlib.Omega.{arith}
 use borrow.Author.Tests.{eq-eqb, ne-eqb}
 use denote.Ref.{now}
 use lib.ListN.{length, set, length-set}
-use Rattle.calllog.specs.Records.{recordBytes, recordAt}
-use Rattle.calllog.specs.Buffers.{written}
+use Rattle.records.specs.Records.{recordBytes, recordAt}
+use Rattle.records.specs.Buffers.{written}
+use Rattle.records.proofs.Asking.{whole-record}
 use Rattle.calllog.specs.Bursts.{answerByte}
-use Rattle.calllog.proofs.Asking.{whole-record}
 use Rattle.calllog.proofs.Bursts.{has-room, fits, behind}
 use Rattle.plain.specs.declared.Outcome.{Outcome}
 use Rattle.plain.specs.Bursts.{offeredBy, offeredAt, offeredTo, answersTo, burstState, burstAnswers}
