@@ -23,7 +23,7 @@ use Rattle.request.specs.declared.Request.the-variants.{Count, Offered, Poll}
 use Rattle.request.specs.Plans.{loadsNoted, loadIn}
 use Rattle.gate.specs.declared.State.{State}
 use Rattle.gate.specs.Layout.{controlOn}
-use Rattle.gate.specs.Plans.{loadsOn, movedOn}
+use Rattle.gate.specs.Plans.{loadsOn, movedOn, listedOn}
 
 -- of five the last is not asked for in the first four profiles
 last-unasked : (profile a b c d x y : ℕ) → isProfile profile ≡ true → eqb profile 5 ≡ false
@@ -92,6 +92,26 @@ noted-some number profile (Count busy probes) h =
     split (eqb number 0) (λ e. eqb-true number 0 e) (λ e. absurd (omega (arith, rw e at h)))
 noted-some number profile (Offered o) h = absurd (omega arith)
 noted-some number profile Poll h = absurd (omega arith)
+
+-- in a profile without a list nothing is noted, no level is told and no wait listed
+none-noted : (number profile : ℕ) (r : Request) → eqb profile 5 ≡ false → loadsNoted number profile r ≡ 0
+unfolding loadsNoted
+none-noted number profile (Count busy probes) n = rw n (split (eqb number 0) (λ e. rw e) (λ e. rw e))
+none-noted number profile (Offered o) n = refl
+none-noted number profile Poll n = refl
+
+module _ (s : State) (number : ℕ) (r : Request) (n : eqb (s .profile) 5 ≡ false) where
+  pub unlisted-loads : s .rows .loads ≡ loadsOn s number r
+  unfolding loadsOn notedIf
+  unlisted-loads = rw (none-noted number (s .profile) r n)
+
+  pub unlisted-moved : 0 ≡ movedOn s number r
+  unfolding movedOn
+  unlisted-moved = rw (none-noted number (s .profile) r n)
+
+  pub unlisted-wait : 0 ≡ listedOn s
+  unfolding listedOn
+  unlisted-wait = rw n
 
 -- what is noted where it isn't does not matter
 noted-alike : (more load : ℕ) (l : Loads) → notedIf more (cond (eqb more 0) 0 load) l ≡ notedIf more load l
