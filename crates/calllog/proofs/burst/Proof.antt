@@ -19,7 +19,7 @@ use Rattle.calllog.specs.Bursts.{offeredBy, answerByte, offeredAt, offer
 use Rattle.calllog.specs.Bursts.{burstNumber, isAccepted, burstState, burstAnswers}
 use Rattle.calllog.proofs.Asking.{step-call}
 use Rattle.calllog.proofs.Soundness.{call-keeps}
-use Rattle.calllog.proofs.Bursts.{offered-call, offered-other, offered-unsound, record-told, fits, answers-length}
+use Rattle.calllog.proofs.Bursts.{offered-call, offered-other, offered-unsound, put-back, record-told, fits, answers-length}
 use Rattle.calllog.proofs.Bursts.{has-room, behind}
 use borrow.Author.Needs.{needs}
 use Rattle.calllog.proofs.burst.Statement.{statement}
@@ -77,9 +77,9 @@ done c =
     let rec = c .before .before .read-record .result in
     ⊎-elim
     (λ way.
-    let reached : c .if2 .reached ≡ way .3 .result .state = way .5 in (
-      ap₂ outcome reached (way .6) ∙ way .3 .ensures ∙ sym (step-call met rec _ (way .2 .ensures))
-          ∙ step-call met rec _ (asks-offer rec (way .0 .taken)) ∙ sym (offered-call met rec (way .0 .taken)),
+    let called = way .3 .ensures ∙ sym (step-call met rec _ (way .2 .ensures)) ∙ step-call met rec _ (asks-offer rec (way .0 .taken)) in
+    let reached : c .if2 .reached ≡ way .3 .result .state = way .7 ∙ put-back met (way .3 .result) _ _ called in (
+      ap₂ outcome reached (way .8) ∙ called ∙ sym (offered-call met rec (way .0 .taken)),
       way .1 .taken ∙ sym (call-keeps _ met _ (way .3 .ensures) (sym (l .inv .4) ∙ way .1 .taken)) ∙ ap soundState (sym reached),
     ))
     (⊎-elim
