@@ -26,12 +26,12 @@ use Rattle.calllog.proofs.burst.Statement.{statement}
 use Rattle.calllog.proofs.burst.Tie as tie
 
 abbrev Inv-loop : tie.InvT-loop
-Inv-loop records answers₀ sound number state₀ n i₀ answers reached i =
-    (i ≤ n) × (length answers ≡ length answers₀) × (reached ≡ offeredTo state₀ records i)
-    × (answers ≡ written answers₀ 0 (answersTo state₀ records i)) × (sound ≡ soundState reached)
+Inv-loop records answers₀ sound number state₀ n i₀ answers current i =
+    (i ≤ n) × (length answers ≡ length answers₀) × (current ≡ offeredTo state₀ records i)
+    × (answers ≡ written answers₀ 0 (answersTo state₀ records i)) × (sound ≡ soundState current)
 
 abbrev μ-loop : tie.MeasureT-loop
-μ-loop records answers₀ sound number state₀ n i₀ answers reached i = n - i
+μ-loop records answers₀ sound number state₀ n i₀ answers current i = n - i
 
 is-sound-requires : tie.Need-is-sound-requires Inv-loop μ-loop
 is-sound-requires c κs = search needs
@@ -69,16 +69,16 @@ step-sound-requires c κs =
 done :
     (c : tie.Joined2 Inv-loop μ-loop)
     → let l = c .before .before .before .before .loop in
-    (outcome (c .if2 .reached) (c .if2 .answer) ≡ offeredBy (l .reached) (c .before .before .read-record .result))
-    × (c .before .before .before .before .before .before .before .is-sound .result ≡ soundState (c .if2 .reached))
+    (outcome (c .if2 .current) (c .if2 .answer) ≡ offeredBy (l .current) (c .before .before .read-record .result))
+    × (c .before .before .before .before .before .before .before .is-sound .result ≡ soundState (c .if2 .current))
 done c =
     let l = c .before .before .before .before .loop in
-    let met = l .reached in
+    let met = l .current in
     let rec = c .before .before .read-record .result in
     ⊎-elim
     (λ way.
     let called = way .3 .ensures ∙ sym (step-call met rec _ (way .2 .ensures)) ∙ step-call met rec _ (asks-offer rec (way .0 .taken)) in
-    let reached : c .if2 .reached ≡ way .3 .result .state = way .7 ∙ put-back met (way .3 .result) _ _ called in (
+    let reached : c .if2 .current ≡ way .3 .result .state = way .7 ∙ put-back met (way .3 .result) _ _ called in (
       ap₂ outcome reached (way .8) ∙ called ∙ sym (offered-call met rec (way .0 .taken)),
       way .1 .taken ∙ sym (call-keeps _ met _ (way .3 .ensures) (sym (l .inv .4) ∙ way .1 .taken)) ∙ ap soundState (sym reached),
     ))
@@ -129,7 +129,7 @@ loop-again c =
     let given = s .args .state in
     let answers = now (s .args .answers) in
     let rec = c .before .before .before .read-record in
-    let e : outcome (c .before .if2 .reached) (c .before .if2 .answer) ≡ offeredAt (offeredTo given records i) records i =
+    let e : outcome (c .before .if2 .current) (c .before .if2 .answer) ≡ offeredAt (offeredTo given records i) records i =
     done (c .before) .0 ∙ ap₂ offeredBy (l .inv .2) (rec .ensures) in
     let told = record-told (offeredTo given records i) (recordAt records (recordBytes * i)) in
     let byte : c .answer-byte .result ≡ answerByte (offeredAt (offeredTo given records i) records i .answer) =
