@@ -19,8 +19,8 @@ use Rattle.calllog.specs.Bursts.{offeredBy, answerByte, offeredAt, offer
 use Rattle.calllog.specs.Bursts.{burstNumber, isAccepted, burstState, burstAnswers}
 use Rattle.calllog.proofs.Asking.{step-call}
 use Rattle.calllog.proofs.Soundness.{call-keeps}
-use Rattle.calllog.proofs.Bursts.{offered-call, offered-other, offered-unsound, put-back, record-told, fits, answers-length}
-use Rattle.calllog.proofs.Bursts.{has-room, behind}
+use Rattle.calllog.proofs.Bursts.{offered-call, offered-other, offered-unsound, record-told, fits, answers-length}
+use Rattle.calllog.proofs.Bursts.{put-back, has-room, behind}
 use borrow.Author.Needs.{needs}
 use Rattle.calllog.proofs.burst.Statement.{statement}
 use Rattle.calllog.proofs.burst.Tie as tie
@@ -77,7 +77,8 @@ done c =
     let rec = c .before .before .read-record .result in
     ⊎-elim
     (λ way.
-    let called = way .3 .ensures ∙ sym (step-call met rec _ (way .2 .ensures)) ∙ step-call met rec _ (asks-offer rec (way .0 .taken)) in
+    let called = way .3 .ensures ∙ sym (step-call met rec _ (way .2 .ensures))
+    ∙ step-call met rec _ (asks-offer rec (way .0 .taken)) in
     let reached : c .if2 .current ≡ way .3 .result .state = way .7 ∙ put-back met (way .3 .result) _ _ called in (
       ap₂ outcome reached (way .8) ∙ called ∙ sym (offered-call met rec (way .0 .taken)),
       way .1 .taken ∙ sym (call-keeps _ met _ (way .3 .ensures) (sym (l .inv .4) ∙ way .1 .taken)) ∙ ap soundState (sym reached),
