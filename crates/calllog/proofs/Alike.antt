@@ -2,19 +2,22 @@
 -- goes by a make's list, and no gate of another profile than 5 does.
 use Prim.Native.Nat.{ℕ}
 use mathlib.Core.Path.{_≡_, refl, sym, ap, _∙_}
-use mathlib.Core.Bool.{true}
+use mathlib.Core.Bool.{true, cond}
 use mathlib.Core.List.{List, _∷_}
 use borrow.Author.Tests.{ne-eqb}
 use Rattle.rules.specs.Refusals.{firstOf}
-use Rattle.rules.specs.Samples.{busyOf, goodWords, sampleOf}
+use Rattle.rules.specs.Samples.{busyOf, goodWords}
 use Rattle.control.specs.Control.{listKept}
+use Rattle.model.specs.declared.Answer.the-variants.{Refused}
+use Rattle.model.specs.Queues.{inQueues}
 use Rattle.model.specs.Calls.{Call, words, count}
+use Rattle.model.specs.Effects.{Result}
 use Rattle.model.specs.Gate.{makeIn}
+use Rattle.model.proofs.Sampling.{good-alike}
 use Rattle.gate.specs.declared.State.{State}
 use Rattle.gate.specs.declared.Outcome.{Outcome}
-use Rattle.gate.specs.Layout.{callOn, makeState}
+use Rattle.gate.specs.Layout.{viewOf, soundState, outcome, outcomeOf, callOn, makeState}
 use Rattle.gate.specs.Runs.{stateAfter, eventsOn}
-use Rattle.gate.proofs.Sampling.{words-busy}
 use Rattle.records.specs.Writing.{recordOf, argumentChecks, writeNumber, logAfter}
 use Rattle.calllog.specs.Writing.{ListsLeftOut, answersOn, SameAfter, CountAnswersAlike, AlikeAnswerAlike}
 
@@ -22,8 +25,10 @@ use Rattle.calllog.specs.Writing.{ListsLeftOut, answersOn, SameAfter, Co
 pub count-for-words :
     (s : State) (stamp probes : ℕ) (ws : List ℕ) → goodWords probes ws ≡ true
     → callOn s (count stamp (busyOf ws probes) probes) ≡ callOn s (words stamp probes ws)
-unfolding sampleOf
-count-for-words s stamp probes ws g = words-busy s stamp probes ws (busyOf ws probes) (rw g)
+unfolding callOn
+count-for-words s stamp probes ws g =
+    ap (λ (r : Result inQueues). cond (soundState s) (outcomeOf s r) (outcome s (Refused 9)))
+    (good-alike (viewOf s) stamp probes ws g)
 
 -- a make with its list and without it
 pub lists-left-out : ListsLeftOut

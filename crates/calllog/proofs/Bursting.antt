@@ -2,28 +2,25 @@
 -- single calls, and demand 3 of that run is demand 3 of what the host has heard.
 use Prim.Native.Nat.{ℕ, zero, suc, _*_, _<_}
 use mathlib.Core.Path.{_≡_, refl, sym, ap, ap₂, _∙_, subst⁻¹}
-use mathlib.Core.Bool.{Bool, true, false, cond}
-use mathlib.Core.List.{List, [], _∷_, _++_, append-nil}
+use mathlib.Core.Bool.{true, cond}
+use mathlib.Core.List.{List, [], _∷_, _++_}
 use native.Mathlib.Omega.{arith}
 use lib.ListN.{length, getD, drop, List·getD-append}
-use Rattle.rules.proofs.Cases.{split, on-test}
+use Rattle.rules.proofs.Cases.{split}
 use Rattle.model.specs.declared.Answer.{Answer}
-use Rattle.model.specs.declared.Answer.the-variants.{Ready}
-use Rattle.model.specs.Calls.{Call, Making}
+use Rattle.model.specs.Calls.{Call}
 use Rattle.model.specs.Journal.{opened, journalOf}
 use Rattle.model.specs.Claims.{Claims}
 use Rattle.gate.specs.declared.State.{State}
-use Rattle.gate.specs.declared.Outcome.{Outcome}
 use Rattle.gate.specs.Layout.{viewOf, soundState, callOn, makeState}
-use Rattle.gate.specs.Runs.{stateAfter, eventsOn, PollsRight, journalOn, StateRun}
+use Rattle.gate.specs.Runs.{stateAfter, eventsOn, PollsRight, StateRun}
 use Rattle.gate.proofs.Runs.{make-runs}
 use Rattle.records.specs.declared.Record.{Record}
 use Rattle.records.specs.Records.{recordBytes, recordAt}
-use Rattle.records.specs.Buffers.{written}
 use Rattle.calllog.specs.Bursts.{isOffer, offerOf, offeredBy, answerByte, offeredTo, answersTo, isAccepted, recordsIn}
-use Rattle.calllog.specs.Bursts.{burstState, burstAnswers, offersTo, answerOf, heardTo, AsSingleCalls, BurstsAreSingleCalls}
+use Rattle.calllog.specs.Bursts.{burstState, burstAnswers, offersTo, answerOf, heardTo, BurstsAreSingleCalls}
 use Rattle.calllog.specs.Bursts.{Move, one, burst, moved, callsOf, heardOf, movedAll, allCalls, allHeard}
-use Rattle.calllog.specs.Bursts.{journalHeard, BurstRun, RunsWithBursts}
+use Rattle.calllog.specs.Bursts.{journalHeard, RunsWithBursts}
 use Rattle.calllog.proofs.Bursts.{offer-told, answers-length, from-start, byteOf, answer-at}
 
 -- calls behind other calls

@@ -1,8 +1,7 @@
--- A burst's records one at a time: what a record of each kind does, that an offer leaves the loads, that its answer is told by
--- one byte, and that a byte stored behind the answers so far is one more answer.
+-- A burst's records one at a time: what a record of each kind does, that its answer is told by one byte, and that a byte stored
+-- behind the answers so far is one more answer.
 use Prim.Native.Nat.{ℕ, zero, suc, _/_, _%_, _<_, _≤_, min}
 use mathlib.Core.Path.{_≡_, refl, sym, ap, _∙_}
-use mathlib.Core.Bool.{true, false}
 use mathlib.Core.List.{List, [], _∷_, _++_}
 use native.Mathlib.Nat.{zero-add}
 use native.Mathlib.Omega.{arith}
@@ -12,61 +11,35 @@ use lib.ListN.{length, getD, set, drop, length-append, List·getD-append}
 use lib.Seq.{drop-cons, set-at, getD-at, append-snoc}
 use Rattle.rules.specs.Refusals.{Check, firstOf}
 use Rattle.rules.proofs.Cases.{split, on-cond}
-use Rattle.machine.specs.declared.Loads.{Loads}
-use Rattle.control.specs.Control.{Control}
 use Rattle.model.specs.declared.Offer.{Offer}
 use Rattle.model.specs.declared.Answer.{Answer}
 use Rattle.model.specs.declared.Answer.the-variants.{Refused}
 use Rattle.model.specs.Queues.{inQueues}
 use Rattle.model.specs.Calls.{offer, isRefused}
 use Rattle.model.specs.State.{View}
-use Rattle.model.specs.Effects.{Result, refreshed, isFull, effect}
+use Rattle.model.specs.Effects.{Result, effect}
 use Rattle.model.specs.Gate.{checks, call}
 use Rattle.gate.specs.declared.State.{State}
 use Rattle.gate.specs.declared.Outcome.{Outcome}
-use Rattle.gate.specs.Layout.{rowsOf, stateFrom, numbersOf, viewOf, soundState, outcome, callOn}
+use Rattle.gate.specs.Layout.{viewOf, soundState, outcome, callOn}
 use Rattle.records.specs.declared.Record.{Record}
 use Rattle.records.specs.Records.{recordBytes}
 use Rattle.records.specs.Buffers.{written}
+use Rattle.records.proofs.Asking.{asks-offer}
+use Rattle.calllog.specs.Steps.{stepOn}
 use Rattle.calllog.specs.Bursts.{offerOf, offeredBy, answerByte, offeredAt, offeredTo, answersTo, burstNumber, answerOf}
+use Rattle.calllog.proofs.Asking.{step-call}
 
 pub offered-call : (s : State) (rec : Record) → rec .kind ≡ 2 → offeredBy s rec ≡ callOn s (offerOf rec)
 unfolding offeredBy
 offered-call s rec e = simp e
 
+pub offered-step : (s : State) (rec : Record) → rec .kind ≡ 2 → stepOn s rec ≡ offeredBy s rec
+offered-step s rec e = step-call s rec _ (asks-offer rec e) ∙ sym (offered-call s rec e)
+
 pub offered-other : (s : State) (rec : Record) → (rec .kind ≡ 2 → ⊥) → offeredBy s rec ≡ outcome s (Refused 10)
 unfolding offeredBy
 offered-other s rec e = simp (ne-eqb (rec .kind) 2 e)
-
-pub offered-unsound :
-    (s : State) (rec : Record) → rec .kind ≡ 2 → soundState s ≡ false → offeredBy s rec ≡ outcome s (Refused 9)
-unfolding offeredBy callOn
-offered-unsound s rec e u = simp (e, u)
-
--- an offer leaves what samples steer as it was, and so the loads: put back, they change nothing
-control-kept : (v : View) (stamp : ℕ) (o : Offer) → call v (offer stamp o) .view .control ≡ v .control
-unfolding call effect
-control-kept v stamp o =
-    split (eqb (firstOf (checks v (offer stamp o))) 0)
-    (λ e. rw e (split (isFull (refreshed v stamp) (o .priority)) (λ f. rw f) (λ f. rw f)))
-    (λ e. rw e)
-
-loads-kept : (s : State) (stamp : ℕ) (o : Offer) → callOn s (offer stamp o) .state .rows .loads ≡ s .rows .loads
-unfolding callOn
-loads-kept s stamp o =
-    split (soundState s)
-    (λ e. split (isRefused (call (viewOf s) (offer stamp o) .answer))
-    (λ f. rw (e, f))
-    (λ f. rw (e, f) (ap (λ (k : Control). k .loads) (control-kept (viewOf s) stamp o))))
-    (λ e. rw e)
-
-abbrev pub withLoads : State → Loads → State
-withLoads s x = stateFrom (s .queues) (s .levels) (rowsOf (s .rows .ledger) x) (s .live) (numbersOf s)
-
-pub put-back : (s : State) (r : Outcome) (stamp : ℕ) (o : Offer) → r ≡ callOn s (offer stamp o)
-    → withLoads (r .state) (s .rows .loads) ≡ r .state
-put-back s r stamp o e =
-    ap (withLoads (r .state)) (sym (ap (λ (x : Outcome). x .state .rows .loads) e ∙ loads-kept s stamp o))
 
 -- a burst that is taken has room for its answers
 pub has-room : (bytes room : ℕ) → burstNumber bytes room ≡ 0 → bytes / recordBytes ≤ room

@@ -2,7 +2,7 @@
 use Rattle.rules.specs.Refusals.{firstOf}
 use Rattle.packing.specs.Packing.{filled, allAre, padded}
 use Rattle.model.proofs.Computing.{of-runs}
-use Rattle.queue.specs.Layout.{packed}
+use Rattle.waiting.specs.Layout as waiting
 use Rattle.ledger.specs.Layout as ledger
 use Rattle.gate.specs.Layout.{soundState, callOn, makeState}
 use Rattle.records.specs.Records.{twoAt, fourAt, recordAt, probesIn, profileIn, askedBy}
@@ -13,7 +13,8 @@ use Rattle.calllog.specs.Bursts.{burstNumber, burstState, burstAnswers}
 use Rattle.calllog.specs.Text.{reachedFrom, linesFrom, outputFrom}
 
 unfoldable pub of-states : Type 0
-unfolding of-runs filled allAre padded packed ledger.packed ledger.tidy soundState callOn makeState
+unfolding of-runs filled allAre padded waiting.triples waiting.wordsOf waiting.packed waiting.flat waiting.queues waiting.laid
+    waiting.fourOf waiting.rowsFor waiting.tidy ledger.packed ledger.tidy soundState callOn makeState
 of-states = Unit {0}
 
 unfoldable pub of-logs : Type 0

@@ -1,6 +1,6 @@
 -- A turn writes its records' lines and then nothing or the last line, so turns over full blocks write what their log does.
-use Prim.Native.Nat.{ℕ, _+_, _*_, _/_, _≤_, _<_}
-use mathlib.Core.Path.{_≡_, refl, sym, ap, ap₂, _∙_, subst⁻¹}
+use Prim.Native.Nat.{ℕ, _+_, _/_, _≤_}
+use mathlib.Core.Path.{_≡_, refl, sym, ap, ap₂, _∙_}
 use mathlib.Core.Bool.{Bool, true, false}
 use mathlib.Core.List.{List, [], _∷_, _++_, append-nil}
 use native.Mathlib.Omega.{arith}
@@ -13,7 +13,7 @@ use Rattle.lines.specs.Lines.{lastLine}
 use Rattle.calllog.specs.Text.{reachedFrom, linesFrom, outputFrom, recordsDone}
 use Rattle.calllog.specs.Text.{block, blockBytes, blockRoom, goesOn, turnText, Whole}
 use Rattle.calllog.specs.Text.{turns, oneLog, AllFull, TurnsAreTheProgram}
-use Rattle.calllog.proofs.Lengths.{lines-le, done-room}
+use Rattle.calllog.proofs.Lengths.{lines-le}
 use Rattle.calllog.proofs.Pieces.{pieces}
 
 -- how many records a block does of a piece that it holds

@@ -2,10 +2,10 @@
 -- No rule of the requirement: the header's PRESSCURLEW_VERSION_NUMBER and PRESSCURLEW_LAYOUT, held by tests.
 use Prim.Native.Nat.{ℕ}
 
--- 0.9.0: a million for each major and a thousand for each minor number
+-- 0.10.0: a million for each major and a thousand for each minor number
 abbrev pub version : ℕ
-version = 9000
+version = 10000
 
 -- the check sum of the sizes and offsets of all structs, and of the types of all calls, as C sees them
 abbrev pub layout : ℕ
-layout = 1764727010
+layout = 2252050035

@@ -3,9 +3,9 @@
 ghost use mathlib.Core.Path.{_≡_};
 ghost use Rattle.host.specs.Edition.{version, layout};
 
-pub const VERSION: u32 = 9000;
+pub const VERSION: u32 = 10000;
 
-pub const LAYOUT: u32 = 1764727010;
+pub const LAYOUT: u32 = 2252050035;
 
 // The version: a million for each major and a thousand for each minor number.
 #[no_mangle]

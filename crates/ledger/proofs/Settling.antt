@@ -1,7 +1,7 @@
 -- A call's work on a ledger in order: the words of those that have aged come first, so dropping as many drops them; moving what
 -- is left by the gap, and a store behind it, notes the admission. What is left is young, so its words fit 32 bits when moved.
 use Prim.Native.Nat.{ℕ, _+_, _-_, _≤_, _<_}
-use mathlib.Core.Path.{_≡_, refl, ap, sym, subst⁻¹, _∙_}
+use mathlib.Core.Path.{_≡_, refl, ap, sym, subst, subst⁻¹, _∙_}
 use mathlib.Core.Bool.{true}
 use mathlib.Core.List.{List, [], _∷_, _++_}
 use native.Mathlib.Omega.{arith}
@@ -16,9 +16,10 @@ use Rattle.model.specs.declared.Last.{Last}
 use Rattle.model.specs.Claims.{All}
 use Rattle.model.specs.Ledger.{fullAge, places, young}
 use Rattle.model.proofs.Aging.{AllNoted, noted-forty}
+use Rattle.model.proofs.SoundLedger.{test-ledger}
 use Rattle.ledger.specs.declared.Ledger.{Ledger}
 use Rattle.ledger.specs.Layout.{admission, unit, items, ledgerOf, packed, Packed, soundLedger, agedIn, withoutOldest}
-use Rattle.ledger.specs.Layout.{Movable, Forty}
+use Rattle.ledger.specs.Layout.{putNewest, Movable, Forty, InOrder}
 use Rattle.ledger.proofs.Sound.{InTime, in-time, same-ledger, sound-rules, sound-packed}
 use Rattle.ledger.proofs.Meaning.{AllFitting, wordsOf, read-fitting, words-in-time, first-words, items-packed}
 use Rattle.ledger.proofs.Meaning.{packed-forty, dropped, aged-dropped, aged-le, young-young, young-fitting}
@@ -164,3 +165,24 @@ module _ (base now : ℕ) (l : Ledger) (b : base ≤ now) (t : Packed base l) wh
 
     pub noted-tight : ontime < unit → Packed now after
     noted-tight o = noted ∙ ap (packed now) (sym (noted-items o))
+
+-- a ledger that a sound state had
+pub in-order : (base : ℕ) (l : Ledger) → Packed base l → InOrder (items base l) → Ordered base l
+in-order base l t h =
+    record {
+      tight = t;
+      profile = h .profile;
+      time = h .now;
+      order = test-ledger (h .profile) (h .now) (h .last) (items base l) (h .rules) .noted;
+    }
+
+-- one more, where none has aged, from what the call leaves
+module _ (base at : ℕ) (l : Ledger) (b : base ≤ at) (t : Packed base l) where
+  pub moves : young at (items base l) ≡ items base l → Movable (at - base) (take (l .len) (l .slots))
+  moves y =
+      movable base at l b t
+      (subst (λ (es : List Admission). All (λ (a : Admission). at < a .at + fullAge) es) y (young-young at (items base l)))
+
+  pub notes : (ontime : ℕ) (slots : List ℕ) → l .len < places → slots ≡ putNewest 1 (l .len) (at - base) ontime (l .slots)
+      → ledgerOf (l .len + 1) slots ≡ packed at (items base l ++ (admission at ontime ∷ []))
+  notes ontime slots h e = same-ledger (ledgerOf (l .len + 1) slots) _ refl e ∙ noted base at l b t ontime h

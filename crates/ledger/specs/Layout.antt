@@ -130,3 +130,10 @@ Timely es = All (λ (a : Admission). a .at ≤ endOfTime) es
 -- an array of forty places
 abbrev pub Forty : List ℕ → Type 0
 Forty ns = length ns ≡ places
+
+-- admissions that a sound state had
+pub record InOrder (l : List Admission) : Type 0 where
+  pub profile : ℕ
+  pub now : ℕ
+  pub last : Last
+  pub rules : allOf (ledgerRules profile now last l) ≡ true

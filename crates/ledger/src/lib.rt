@@ -2,16 +2,17 @@
 // air allows a packet. A word is how long before the last admission its own came, times 4,096, plus its
 // on-time; so a ledger is one array of numbers, lent where it lies and never copied.
 ghost use mathlib.Core.Path.{_≡_};
-ghost use mathlib.Core.List.{[]};
+ghost use mathlib.Core.List.{[], _∷_, _++_};
 ghost use Prim.Native.Nat.{_<_, _≤_, _+_, _-_};
 ghost use lib.Dec.{leb, eqb};
 ghost use lib.ListN.{take, drop};
 ghost use Rattle.rules.specs.Clock.{endOfTime};
 ghost use Rattle.packing.specs.Packing.{allAre, isUnused};
-ghost use Rattle.model.specs.Ledger.{mostAir, youngAt, airOf, allowedFrom, isRecent};
+ghost use Rattle.model.specs.Ledger.{mostAir, places, youngAt, young, airOf, allowedFrom, isRecent};
 ghost use Rattle.ledger.specs.Layout.{ageIn, ontimeIn, readFrom, packed, ledgerOf, soundLedger};
 ghost use Rattle.ledger.specs.Layout.{youngFrom, wellKept, agedIn, inPlaces, withoutOldest};
-ghost use Rattle.ledger.specs.Layout.{putNewest, Movable, added, Timely, Forty};
+ghost use Rattle.ledger.specs.Layout.{putNewest, Movable, added, Timely, Forty, admission, items};
+ghost use Rattle.ledger.specs.Layout.{Packed, InOrder};
 use model::Last;
 
 // The first `len` words hold the admissions, the oldest first; the others are zero.
@@ -96,7 +97,7 @@ fn is_recent(last: Last, time: u64) -> bool
 
 // Whether the places past the admissions are zero. All are read, with no way out before the end, so that many
 // are read at once.
-fn is_rest_zero(n: usize, slots: &[u32; 40]) -> bool
+fn is_rest_zero(n: usize, slots: &[u32]) -> bool
     requires { ⌜ Forty (now slots) ⌝ }
     requires { ⌜ n ≤ 40 ⌝ }
     ensures { λ r. ⌜ r ≡ allAre isUnused (drop n (now (slots .entry))) ⌝ }
@@ -122,7 +123,7 @@ fn above(a: u32, b: u32) -> u32
 
 // Whether the first n words are in step and their air time is allowed. All are read, with no way out before
 // the end, so that four are read at once.
-fn are_many_kept(n: usize, slots: &[u32; 40], first: u32, most: u32) -> bool
+fn are_many_kept(n: usize, slots: &[u32], first: u32, most: u32) -> bool
     requires { ⌜ Forty (now slots) ⌝ }
     requires { ⌜ n ≤ 40 ⌝ }
     ensures { λ r. ⌜ r ≡ wellKept first most (take n (now (slots .entry))) ⌝ }
@@ -147,7 +148,7 @@ fn are_many_kept(n: usize, slots: &[u32; 40], first: u32, most: u32) -> bool
 }
 
 // The same, of a few words: for these one after the other, up to the first that is not in step, is faster.
-fn are_few_kept(n: usize, slots: &[u32; 40], first: u32, most: u32) -> bool
+fn are_few_kept(n: usize, slots: &[u32], first: u32, most: u32) -> bool
     requires { ⌜ Forty (now slots) ⌝ }
     requires { ⌜ n ≤ 40 ⌝ }
     ensures { λ r. ⌜ r ≡ wellKept first most (take n (now (slots .entry))) ⌝ }
@@ -173,7 +174,7 @@ fn are_few_kept(n: usize, slots: &[u32; 40], first: u32, most: u32) -> bool
 }
 
 // Whether the first n words are in step and their air time is allowed.
-fn is_well_kept(n: usize, slots: &[u32; 40], first: u32, most: u32) -> bool
+fn is_well_kept(n: usize, slots: &[u32], first: u32, most: u32) -> bool
     requires { ⌜ Forty (now slots) ⌝ }
     requires { ⌜ n ≤ 40 ⌝ }
     ensures { λ r. ⌜ r ≡ wellKept first most (take n (now (slots .entry))) ⌝ }
@@ -186,7 +187,7 @@ fn is_well_kept(n: usize, slots: &[u32; 40], first: u32, most: u32) -> bool
 
 // Whether a ledger is sound. Its base is the time of the last admission, which is the newest, so its word is
 // just its on-time. The first word may be as old as is young now, and the others follow in step.
-pub fn is_sound(n: usize, slots: &[u32; 40], profile: u32, time: u64, last: Last) -> bool
+pub fn is_sound(n: usize, slots: &[u32], profile: u32, time: u64, last: Last) -> bool
     requires { ⌜ Forty (now slots) ⌝ }
     requires { ⌜ time ≤ endOfTime ⌝ }
     ensures { λ r. ⌜ r ≡ soundLedger profile time last (ledgerOf n (now (slots .entry))) ⌝ }
@@ -222,7 +223,7 @@ pub fn is_sound(n: usize, slots: &[u32; 40], profile: u32, time: u64, last: Last
 }
 
 // How many have aged before the first that is young.
-pub fn count_aged(n: usize, slots: &[u32; 40], base: u64, time: u64) -> usize
+pub fn count_aged(n: usize, slots: &[u32], base: u64, time: u64) -> usize
     requires { ⌜ Forty (now slots) ⌝ }
     requires { ⌜ n ≤ 40 ⌝ }
     ensures { λ r. ⌜ r ≡ agedIn time base (take n (now (slots .entry))) ⌝ }
@@ -239,7 +240,7 @@ pub fn count_aged(n: usize, slots: &[u32; 40], base: u64, time: u64) -> usize
 }
 
 // Zeros behind the first n words.
-fn clear(n: usize, slots: &mut [u32; 40])
+fn clear(n: usize, slots: &mut [u32])
     requires { ⌜ Forty (now slots) ⌝ }
     requires { ⌜ n ≤ 40 ⌝ }
     ensures { λ _. ⌜ now (slots .exit) ≡ inPlaces (take n (now (slots .entry))) ⌝ }
@@ -252,7 +253,7 @@ fn clear(n: usize, slots: &mut [u32; 40])
 }
 
 // The n words without the k oldest; where k is 0 nothing is looked at.
-pub fn drop_oldest(n: usize, slots: &mut [u32; 40], k: usize)
+pub fn drop_oldest(n: usize, slots: &mut [u32], k: usize)
     requires { ⌜ Forty (now slots) ⌝ }
     requires { ⌜ (0 < k → (n ≤ 40) × (k ≤ n)) ⌝ }
     ensures { λ _. ⌜ now (slots .exit) ≡ withoutOldest n k (now (slots .entry)) ⌝ }
@@ -271,7 +272,7 @@ pub fn drop_oldest(n: usize, slots: &mut [u32; 40], k: usize)
 
 // An admission noted behind n, a gap after the last one, unless `more` is 0. It is the base from then on, so
 // the others are older by the gap.
-pub fn put_newest(n: usize, slots: &mut [u32; 40], gap: u64, ontime: u32, more: usize)
+pub fn put_newest(n: usize, slots: &mut [u32], gap: u64, ontime: u32, more: usize)
     requires { ⌜ Forty (now slots) ⌝ }
     requires { ⌜ (0 < more → (n < 40) × Movable gap (take n (now slots))) ⌝ }
     ensures { λ _. ⌜ now (slots .exit) ≡ putNewest more n gap ontime (now (slots .entry)) ⌝ }
@@ -288,7 +289,7 @@ pub fn put_newest(n: usize, slots: &mut [u32; 40], gap: u64, ontime: u32, more: 
 }
 
 // The on-times added.
-fn air_of(n: usize, slots: &[u32; 40]) -> u32
+fn air_of(n: usize, slots: &[u32]) -> u32
     requires { ⌜ Forty (now slots) ⌝ }
     requires { ⌜ n ≤ 40 ⌝ }
     requires { ⌜ added (take n (now slots)) ≤ mostAir ⌝ }
@@ -304,7 +305,7 @@ fn air_of(n: usize, slots: &[u32; 40]) -> u32
 }
 
 // The time from which the air allows a packet, where `sum` is that of the admissions.
-fn allowed_from(n: usize, slots: &[u32; 40], base: u64, sum: u32, ontime: u32, time: u64) -> u64
+fn allowed_from(n: usize, slots: &[u32], base: u64, sum: u32, ontime: u32, time: u64) -> u64
     requires { ⌜ Forty (now slots) ⌝ }
     requires { ⌜ n ≤ 40 ⌝ }
     requires { ⌜ sum ≡ airOf (readFrom base (take n (now slots))) ⌝ }
@@ -328,7 +329,7 @@ fn allowed_from(n: usize, slots: &[u32; 40], base: u64, sum: u32, ontime: u32, t
 }
 
 // The µs until the air allows a packet.
-pub fn air_left(n: usize, slots: &[u32; 40], base: u64, ontime: u32, time: u64) -> u64
+pub fn air_left(n: usize, slots: &[u32], base: u64, ontime: u32, time: u64) -> u64
     requires { ⌜ Forty (now slots) ⌝ }
     requires { ⌜ n ≤ 40 ⌝ }
     requires { ⌜ airOf (readFrom base (take n (now slots))) ≤ mostAir ⌝ }
@@ -341,4 +342,30 @@ pub fn air_left(n: usize, slots: &[u32; 40], base: u64, ontime: u32, time: u64) 
         return 0;
     }
     from - time
+}
+
+// How many of n admissions are left without those that have aged. Their base is the time of the last one.
+pub fn age(n: usize, slots: &mut [u32], base: u64, time: u64) -> usize
+    requires { ⌜ Forty (now slots) ⌝ }
+    requires { ⌜ Packed base (ledgerOf n (now slots)) ⌝ }
+    requires { ⌜ InOrder (items base (ledgerOf n (now slots))) ⌝ }
+    ensures { λ r. ⌜ ledgerOf r (now (slots .exit))
+        ≡ packed base (young time (items base (ledgerOf n (now (slots .entry))))) ⌝ }
+{
+    let gone = count_aged(n, slots, base, time);
+    drop_oldest(n, slots, gone);
+    n - gone
+}
+
+// One more admission behind n, none of which has aged. It is the last from then on: its time is the base.
+pub fn note(n: usize, slots: &mut [u32], base: u64, at: u64, ontime: u32)
+    requires { ⌜ Forty (now slots) ⌝ }
+    requires { ⌜ Packed base (ledgerOf n (now slots)) ⌝ }
+    requires { ⌜ n < places ⌝ }
+    requires { ⌜ base ≤ at ⌝ }
+    requires { ⌜ young at (items base (ledgerOf n (now slots))) ≡ items base (ledgerOf n (now slots)) ⌝ }
+    ensures { λ _. ⌜ ledgerOf (n + 1) (now (slots .exit))
+        ≡ packed at (items base (ledgerOf n (now (slots .entry))) ++ (admission at ontime ∷ [])) ⌝ }
+{
+    put_newest(n, slots, at - base, ontime, 1);
 }

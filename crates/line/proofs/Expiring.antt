@@ -10,7 +10,7 @@ use Rattle.packing.specs.Packing.{filled}
 use Rattle.packing.proofs.Packing.{set-filled}
 use Rattle.model.specs.declared.Packet.{Packet}
 use Rattle.model.specs.Packets.{noPacket, unexpired, withoutExpired}
-use Rattle.queue.proofs.Expiry.{kept-yes, kept-no}
+use Rattle.checks.proofs.Walk.{kept-yes, kept-no}
 use Rattle.line.specs.declared.Line.{Line}
 use Rattle.line.specs.Layout.{places, packed}
 use Rattle.line.proofs.Packing.{same-line}

@@ -10,7 +10,7 @@ use Rattle.rules.specs.Profiles.{room}
 use Rattle.rules.specs.Tests.{allOf}
 use Rattle.packing.specs.Packing.{allAre, padded}
 use Rattle.model.specs.Packets.{inOrder}
-use Rattle.queue.specs.Layout.{isZero}
+use Rattle.checks.specs.Checks.{isZero}
 use Rattle.rules.proofs.Cases.{both}
 use Rattle.line.specs.declared.Line.{Line}
 use Rattle.line.specs.Line.{countOf, allowedPacket, listRules}

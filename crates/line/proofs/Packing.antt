@@ -14,8 +14,8 @@ use Rattle.packing.specs.Packing.{allAre, padded}
 use Rattle.packing.proofs.Packing.{list-filled, set-filled, padded-filled, filled-padded}
 use Rattle.model.specs.declared.Packet.{Packet}
 use Rattle.model.specs.Packets.{noPacket, atBack}
-use Rattle.queue.specs.Layout.{isZero}
-use Rattle.queue.proofs.Sound.{zero-is}
+use Rattle.checks.specs.Checks.{isZero}
+use Rattle.checks.proofs.Walk.{zero-is}
 use Rattle.line.specs.declared.Line.{Line}
 use Rattle.line.specs.Layout.{places, items, packed, Packed, pushed, tidy}
 

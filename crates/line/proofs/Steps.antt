@@ -10,7 +10,7 @@ use borrow.Author.Tests.{eq-eqb, ne-eqb}
 use Rattle.rules.proofs.Cases.{split}
 use Rattle.model.specs.declared.Packet.{Packet}
 use Rattle.model.specs.Packets.{noPacket, chosen}
-use Rattle.queue.proofs.Walk.{next, done}
+use Rattle.checks.proofs.Walk.{next, done}
 use Rattle.line.specs.Line.{countOf, goesBefore, best, goesNext, without, picked}
 
 module _ (ps : List Packet) (n i : ℕ) (k : n ≤ length ps) where

@@ -10,7 +10,7 @@ use Rattle.rules.specs.Tests.{allOf}
 use Rattle.packing.specs.Packing.{filled, padded}
 use Rattle.model.specs.declared.Packet.{Packet}
 use Rattle.model.specs.Packets.{noPacket}
-use Rattle.queue.specs.Layout.{isZero}
+use Rattle.checks.specs.Checks.{isZero}
 use Rattle.line.specs.declared.Line.{Line}
 use Rattle.line.specs.Line.{listRules}
 

@@ -7,7 +7,7 @@ ghost use lib.Dec.{leb};
 ghost use lib.ListN.{length, drop};
 ghost use Rattle.packing.specs.Packing.{allAre};
 ghost use Rattle.model.specs.Packets.{withoutExpired, inOrder};
-ghost use Rattle.queue.specs.Layout.{isZero};
+ghost use Rattle.checks.specs.Checks.{isZero};
 ghost use Rattle.line.specs.Line.{countOf, goesBefore, goesNext, without, allowedPacket};
 ghost use Rattle.line.specs.Layout.{places, items, packed, Packed, pushed, soundLine};
 use model::Packet;
@@ -27,7 +27,7 @@ pub const MOST_OF_A_PRIORITY: usize = 5;
 pub fn empty() -> Line
     ensures { λ r. ⌜ r ≡ packed [] ⌝ }
 {
-    let z = queue::NO_PACKET;
+    let z = checks::NO_PACKET;
     let packets = [z; 20];
     Line { len: 0, packets }
 }
@@ -80,7 +80,7 @@ pub fn expire(l: Line, now: u64) -> Line
     let mut i: usize = 0;
     while i < n {
         let p = l.packets[i];
-        if queue::is_unexpired(p, now) {
+        if checks::is_unexpired(p, now) {
             left.packets[kept] = p;
             kept += 1;
         }
@@ -106,7 +106,7 @@ pub fn pick(l: Line) -> Packet
 {
     let n = held(l);
     if n == 0 {
-        return queue::NO_PACKET;
+        return checks::NO_PACKET;
     }
     let mut found = l.packets[0];
     let mut i: usize = 1;
@@ -147,7 +147,7 @@ fn is_packet_sound(p: Packet, profile: u32, now: u64, since: u64) -> bool
     if rules::LAST_PRIORITY < p.priority {
         return false;
     }
-    if !queue::is_within_limits(p, profile, now) {
+    if !checks::is_within_limits(p, profile, now) {
         return false;
     }
     since <= p.arrival
@@ -180,7 +180,7 @@ fn is_rest_zero(l: Line) -> bool
     let mut i = l.len;
     while i < 20 {
         let p = l.packets[i];
-        if !queue::is_zero(p) {
+        if !checks::is_zero(p) {
             return false;
         }
         i += 1;

@@ -14,16 +14,12 @@ use Rattle.model.specs.Effects.{Result}
 use Rattle.model.specs.Gate.{makeIn, make, call}
 use Rattle.model.specs.Journal.{Journal, opened, journalOf}
 use Rattle.model.specs.Claims.{Claims, viewAfter}
-use Rattle.model.proofs.Refusals.{refusals-change-nothing}
-use Rattle.model.proofs.Sound.{test-view, forty-are-enough}
 use Rattle.model.proofs.Demand3.{demand3}
-use Rattle.ledger.proofs.Meaning.{packed-tidy}
-use Rattle.line.specs.Line.{inList, Listed, listRules}
+use Rattle.checks.proofs.Engine.{sound-view, state-sound, on-sound-call}
+use Rattle.line.specs.Line.{inList}
 use Rattle.line.specs.Same.{inParts}
-use Rattle.line.proofs.Packing.{tidy-packed}
-use Rattle.line.proofs.Rules.{at-most-twenty}
 use Rattle.line.proofs.Alike as alike
-use Rattle.line.proofs.Agree.{Parted, parts-alike, sound-tied, parts-sound, tied-parts, sound-lists-agree, made-alike}
+use Rattle.line.proofs.Agree.{Parted, parts-alike, sound-tied, parts-sound, tied-parts, made-alike}
 use Rattle.gate.specs.declared.State as gate-state
 use Rattle.gate.specs.Layout as gate
 use Rattle.gate.specs.Runs as gate-specs
@@ -41,41 +37,20 @@ use Rattle.plain.specs.Layout.{viewOf, stateOf, soundState, callOn, make
 use Rattle.plain.specs.Bursts.{offeredBy, offeredTo, answersTo, burstState, burstAnswers}
 use Rattle.plain.specs.Bursts.{moved, heardOf, movedAll, allHeard}
 use Rattle.plain.specs.Runs.{SameMoves, SoundStatesAgree, PollsRight, journalHeard, SameRun, Agrees}
-use Rattle.plain.proofs.Views.{sound-writable, view-state, sound-parts}
-use Rattle.plain.proofs.Polling.{packets-of}
-
--- a sound list laid out is a sound state
-state-sound : (v : Listed) → sound v ≡ true → soundState (stateOf v) ≡ true
-unfolding soundState
-state-sound v e =
-    rw (
-      tidy-packed (v .waiting) (at-most-twenty (v .control .profile) (v .clock .time) (v .waiting) (packets-of v e)),
-      packed-tidy (v .last .at) (v .ledger) (sound-writable v e) (forty-are-enough v e),
-      view-state v (sound-writable v e),
-    )
-    e
+use Rattle.plain.proofs.Views.{engine}
 
 -- what a state's outcome has in common with the model's result
 abbrev Reads : Result inList → Outcome → Type 0
 Reads w o = (viewOf (o .state) ≡ w .view) × (o .answer ≡ w .answer) × (soundState (o .state) ≡ true)
 
-keeps-sound : (v : Listed) (c : Call) → sound v ≡ true → sound (call v c .view) ≡ true
-unfolding viewAfter
-keeps-sound v c e = sound-lists-agree v (c ∷ []) e .sound-throughout
-
 call-reads : (s : State) (c : Call) → soundState s ≡ true → Reads (call (viewOf s) c) (callOn s c)
-unfolding callOn
+unfolding callOn soundState
 call-reads s c e =
-    rw e
-    (on-cond (Reads w) (isRefused (w .answer))
-    (λ r. (sym (refusals-change-nothing (viewOf s) c r), refl, e))
-    (λ r. (view-state (w .view) (sound-writable (w .view) kept), refl, state-sound (w .view) kept)))
-  where
-    w : Result inList
-    w = call (viewOf s) c
+    on-sound-call engine (Reads (call (viewOf s) c)) s c e (λ same. (same, refl, e)) (λ same kept. (same, refl, kept))
 
-    kept : sound (call (viewOf s) c .view) ≡ true
-    kept = keeps-sound (viewOf s) c (sound-parts s e .2)
+said : (s : State) → soundState s ≡ true → sound (viewOf s) ≡ true
+unfolding soundState
+said s e = sound-view engine s e
 
 -- two sound states that say the same
 pub record Same (s : State) (t : gate-state.State) : Type 0 where
@@ -90,7 +65,7 @@ same-call s t c h =
     let v = viewOf s in
     let r = call-reads s c (h .here) in
     let q = gate-runs.call-reads t c (h .there) in
-    let k = alike.call-alike inList inQueues Parted parts-alike v (inParts v) c (sound-tied v (sound-parts s (h .here) .2)) in (
+    let k = alike.call-alike inList inQueues Parted parts-alike v (inParts v) c (sound-tied v (said s (h .here))) in (
       r .1 ∙ k .0 ∙ ap (λ (x : View). call x c .answer) (h .says) ∙ sym (q .1),
       record {
         here = r .2;
@@ -184,7 +159,7 @@ unfolding viewAfter
 begins m ready = demand3 m [] ready .sound-throughout
 
 made-same : (m : Making) → make m .answer ≡ Ready → Same (makeState m .state) (gate.makeState m .state)
-unfolding makeState gate.makeState
+unfolding makeState gate.makeState soundState
 made-same m ready =
     let v = makeIn inList m .view in
     let w = make m .view in
@@ -192,11 +167,11 @@ made-same m ready =
     let e = begins m ready in
     let h : sound v ≡ true = parts-sound v w t ∙ e in
     record {
-      here = state-sound v h;
+      here = state-sound engine v h;
       there = gate-runs.state-sound w e;
       says =
-          ap inParts (view-state v (sound-writable v h)) ∙ tied-parts v w t
-          ∙ sym (gate-views.view-state w (gate-views.sound-writable w (test-view w e)));
+          ap inParts (engine .view-state v h) ∙ tied-parts v w t
+          ∙ sym (gate-views.view-state w (gate-views.sound-writable w e));
     }
 
 same-made : (m : Making) → makeState m .answer ≡ gate.makeState m .answer

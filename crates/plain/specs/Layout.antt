@@ -3,19 +3,15 @@
 use Prim.Native.Nat.{ℕ}
 use mathlib.Core.Path.{_≡_}
 use mathlib.Core.Bool.{Bool, true, cond, _&&_}
-use mathlib.Core.List.{List}
-use Rattle.rules.specs.Tests.{allOf}
-use Rattle.rules.specs.Clock.{stepOf, goesBack, passesEnd}
 use Rattle.control.specs.Control.{Control, controlOf}
 use Rattle.model.specs.declared.Answer.{Answer}
 use Rattle.model.specs.declared.Answer.the-variants.{Refused}
 use Rattle.model.specs.Calls.{Call, Making, isRefused}
-use Rattle.model.specs.declared.Admission.{Admission}
-use Rattle.model.specs.declared.Last.{Last}
-use Rattle.model.specs.Ledger.{places, ledgerRules}
+use Rattle.model.specs.Ledger.{places}
 use Rattle.model.specs.State.{statusFrom, sound}
-use Rattle.model.specs.Effects.{Result, stepped}
+use Rattle.model.specs.Effects.{Result}
 use Rattle.model.specs.Gate.{makeIn, call}
+use Rattle.checks.specs.Checks.{clockNumber}
 use Rattle.ledger.specs.Layout as ledger
 use Rattle.line.specs.Line.{inList, Listed}
 use Rattle.line.specs.Layout.{items, packed, tidy}
@@ -62,13 +58,6 @@ soundState s = (tidy (s .line) && ledger.tidy (s .last .at) (s .ledger)) && soun
 abbrev pub Given : State → Type 0
 Given s = LaidOut s × (sound (viewOf s) ≡ true)
 
--- admissions that a sound state had
-pub record InOrder (l : List Admission) : Type 0 where
-  pub profile : ℕ
-  pub now : ℕ
-  pub last : Last
-  pub rules : allOf (ledgerRules profile now last l) ≡ true
-
 -- "40 are enough" (document 02, W-207)
 abbrev pub forty : ℕ
 forty = places
@@ -92,8 +81,4 @@ makeState m = outcome (stateOf (makeIn inList m .view)) (makeIn inList m .answer
 
 -- "Checks run 9, 2, 3, then ..": the first that holds of the checks of every call, 0 where none does
 unfoldable pub entryNumber : State → (stamp : ℕ) → ℕ
-entryNumber s stamp =
-    cond (soundState s)
-    (cond (goesBack (stepOf stamp (s .clock .stamp))) 2
-    (cond (passesEnd (stepped (s .clock) stamp .time)) 3 0))
-    9
+entryNumber s stamp = cond (soundState s) (clockNumber (s .clock) stamp) 9

@@ -30,7 +30,7 @@ pub record SameMoves (s : State) (t : gate-state.State) (moves : List Move) : Ty
       → burstAnswers (movedAll s moves) records answers
       ≡ gate-bursts.burstAnswers (gate-bursts.movedAll t moves) records answers
   -- "counts .. among them"
-  pub counts : movedAll s moves .counts ≡ gate-bursts.movedAll t moves .counts
+  pub counts : movedAll s moves .counts ≡ gate-bursts.movedAll t moves .head .counts
   -- and so is all that the states say, the list parted into four queues
   pub states : inParts (viewOf (movedAll s moves)) ≡ gate.viewOf (gate-bursts.movedAll t moves)
   -- no call of it meets NO-STATE

@@ -21,7 +21,7 @@ ghost use Rattle.ledger.specs.Layout as ledger;
 ghost use Rattle.line.specs.Line.{countOf, without};
 ghost use Rattle.line.specs.Layout.{items};
 ghost use Rattle.plain.specs.Layout.{viewOf, stateOf, LaidOut, soundState, Given, outcome, callOn};
-ghost use Rattle.plain.specs.Layout.{controlOn, makeState, entryNumber, InOrder, forty};
+ghost use Rattle.plain.specs.Layout.{controlOn, makeState, entryNumber, forty};
 ghost use Rattle.plain.specs.Bursts.{offeredBy, burstState, burstAnswers};
 ghost use Rattle.calllog.specs.Bursts.{burstNumber};
 ghost use Rattle.plain.specs.Runs.{Agrees};
@@ -79,34 +79,36 @@ fn is_ledger_sound(l: Ledger, profile: u32, time: u64, last: Last) -> bool
     requires { ⌜ time ≤ endOfTime ⌝ }
     ensures { λ r. ⌜ r ≡ ledger.soundLedger profile time last l ⌝ }
 {
-    ledger::is_sound(l.len, &l.slots, profile, time, last)
+    let slots = l.slots;
+    ledger::is_sound(l.len, &slots, profile, time, last)
 }
 
 // The ledger without the admissions that have aged. Its base is the time of the last admission.
-fn age(mut l: Ledger, base: u64, time: u64) -> Ledger
+fn age(l: Ledger, base: u64, time: u64) -> Ledger
     requires { ⌜ ledger.Packed base l ⌝ }
-    requires { ⌜ InOrder (ledger.items base l) ⌝ }
+    requires { ⌜ ledger.InOrder (ledger.items base l) ⌝ }
     ensures { λ r. ⌜ r ≡ ledger.packed base (young time (ledger.items base l)) ⌝ }
 {
-    let n = l.len;
-    let gone = ledger::count_aged(n, &l.slots, base, time);
-    ledger::drop_oldest(n, &mut l.slots, gone);
-    l.len = n - gone;
-    l
+    let mut slots = l.slots;
+    let len = ledger::age(l.len, &mut slots, base, time);
+    Ledger { len, slots }
 }
 
 // The ledger, none of it aged, with one more admission, which is the last from then on: its time is the base.
-fn note(mut l: Ledger, base: u64, at: u64, ontime: u32) -> Ledger
+fn note(l: Ledger, base: u64, at: u64, ontime: u32) -> Ledger
     requires { ⌜ ledger.Packed base l ⌝ }
     requires { ⌜ l .len < forty ⌝ }
     requires { ⌜ base ≤ at ⌝ }
     requires { ⌜ young at (ledger.items base l) ≡ ledger.items base l ⌝ }
     ensures { λ r. ⌜ r ≡ ledger.packed at (ledger.items base l ++ (ledger.admission at ontime ∷ [])) ⌝ }
 {
-    let n = l.len;
-    ledger::put_newest(n, &mut l.slots, at - base, ontime, 1);
-    l.len = n + 1;
-    l
+    let len = l.len;
+    let mut slots = l.slots;
+    ledger::note(len, &mut slots, base, at, ontime);
+    Ledger {
+        len: len + 1,
+        slots,
+    }
 }
 
 // The µs until the air allows a packet.
@@ -116,7 +118,8 @@ fn air_left(l: Ledger, base: u64, ontime: u32, time: u64) -> u64
     requires { ⌜ ledger.Timely (ledger.items base l) ⌝ }
     ensures { λ r. ⌜ r ≡ allowedFrom ontime time (ledger.items base l) - time ⌝ }
 {
-    ledger::air_left(l.len, &l.slots, base, ontime, time)
+    let slots = l.slots;
+    ledger::air_left(l.len, &slots, base, ontime, time)
 }
 
 // What a burst leaves: the state, and the number that refuses it, or 0.
@@ -150,7 +153,7 @@ impl State {
             return false;
         }
         let last = self.last;
-        if !decide::is_last_sound(last, profile, now) {
+        if !checks::is_last_sound(last, profile, now) {
             return false;
         }
         let line = self.line;
@@ -158,7 +161,7 @@ impl State {
             return false;
         }
         let counts = self.counts;
-        if !decide::are_counts_sound(counts, line.len as u64) {
+        if !checks::are_counts_sound(counts, line.len as u64) {
             return false;
         }
         let ledger = self.ledger;
@@ -183,15 +186,8 @@ impl State {
         if !self.is_sound() {
             return 9;
         }
-        let given = self.clock;
-        if rules::goes_back(rules::step(stamp, given.stamp)) {
-            return 2;
-        }
-        let clock = decide::clock_at(given, stamp);
-        if rules::passes_end(clock.time) {
-            return 3;
-        }
-        0
+        let clock = self.clock;
+        checks::clock_refusal(clock, stamp)
     }
 
     // The clock moves, and admissions of the last second are dropped that have aged.
@@ -200,7 +196,7 @@ impl State {
         ensures { λ r. ⌜ r ≡ stateOf (moved (viewOf self) stamp) ⌝ }
     {
         let given = self.clock;
-        let clock = decide::clock_at(given, stamp);
+        let clock = checks::clock_at(given, stamp);
         let ledger = self.ledger;
         self.ledger = age(ledger, self.last.at, clock.time);
         self.clock = clock;
@@ -313,7 +309,7 @@ impl State {
         if number != 0 {
             return self.refused(number);
         }
-        let own = decide::offer_refusal(self.profile, o);
+        let own = checks::offer_refusal(self.profile, o);
         if own != 0 {
             return self.refused(own);
         }
@@ -322,7 +318,7 @@ impl State {
         if room != 0 {
             return self.refused(room);
         }
-        let p = decide::packet_of(o, s.clock.time);
+        let p = checks::packet_of(o, s.clock.time);
         Outcome {
             state: s.join(p),
             answer: Answer::Taken,
@@ -340,9 +336,9 @@ impl State {
         let levels = self.levels;
         let listed = levels.wait(tuning.level);
         let closed = control::closed_after(self.profile, tuning, listed, last.ontime);
-        let left = decide::left_of(closed, last, now);
+        let left = checks::left_of(closed, last, now);
         let late = air_left(self.ledger, last.at, p.ontime, now);
-        decide::longer(left, late)
+        checks::longer(left, late)
     }
 
     // A packet goes: it leaves the line and is noted as the last admission.

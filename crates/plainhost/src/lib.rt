@@ -41,7 +41,7 @@ pub const REFUSED: u32 = 5;
 fn reply_with(kind: u32, number: u64) -> Reply
     ensures { λ r. ⌜ r ≡ plainReply kind number ⌝ }
 {
-    let packet = queue::NO_PACKET;
+    let packet = checks::NO_PACKET;
     Reply {
         packet,
         number,

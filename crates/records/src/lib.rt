@@ -3,11 +3,11 @@
 ghost use mathlib.Core.Path.{_≡_};
 ghost use Prim.Native.Nat.{_+_, _≤_, _<_};
 ghost use lib.ListN.{length};
-ghost use Rattle.request.specs.Requests.{callOf};
+ghost use Rattle.checks.specs.Checks.{callOf};
 ghost use Rattle.records.specs.Records.{twoAt, fourAt, recordAt, wholeRecordAt};
 ghost use Rattle.records.specs.Records.{probesIn, profileIn, calls, askedBy};
+use checks::Request;
 use model::Offer;
-use request::Request;
 
 pub mod writer;
 

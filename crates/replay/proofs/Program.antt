@@ -1,31 +1,32 @@
 -- A turn's contract gives what the program says of it, and a piece behind a log that was cut at a record makes a longer log.
-use Prim.Native.Nat.{ℕ, _+_, _*_, _/_, _≤_}
-use mathlib.Core.Path.{_≡_, sym, ap, ap₂, _∙_}
+use Prim.Native.Nat.{ℕ, _+_, _/_, _≤_}
+use mathlib.Core.Path.{_≡_, refl, sym, ap, _∙_}
 use mathlib.Core.Bool.{Bool, true}
 use mathlib.Core.List.{List, _++_}
 use native.Mathlib.Omega.{arith}
 use borrow.Author.Tests.{leb-true}
 use lib.ListN.{length, length-append}
 use Rattle.gate.specs.declared.State.{State}
+use Rattle.gate.specs.Layout.{stateWith}
 use Rattle.records.specs.Records.{recordBytes}
 use Rattle.records.specs.Buffers.{Put}
 use Rattle.calllog.specs.declared.Progress.{Progress}
 use Rattle.calllog.specs.Steps.{atStart}
 use Rattle.calllog.specs.Text.{reachedFrom, blockBytes, goesOn, turnText, Whole}
 use Rattle.calllog.proofs.Pieces.{state-past}
-use Rattle.replay.specs.Program.{Turned, Reached}
+use Rattle.replay.specs.Program.{Turned, Reached, Ended}
 
 -- a turn handed on, whether or not the program then goes on
 pub handed-on :
-    {buffer after : List ℕ} (s : State) (piece : List ℕ) (failed : Bool) (r : Progress) (more : Bool)
+    {buffer after : List ℕ} (s s′ : State) (piece : List ℕ) (failed : Bool) (used end : ℕ) (full more : Bool)
     → length piece ≤ blockBytes
-    → r .state ≡ reachedFrom s piece (r .used)
-    → Put buffer 0 (turnText s piece failed) (r .end) after
-    → r .more ≡ goesOn piece
-    → Whole (length piece) (r .used) (r .more)
-    → (more ≡ true → r .more ≡ true)
-    → Turned s buffer (record { state = r .state; used = r .used; end = r .end; more = more }) after
-handed-on s piece failed r more fits state text goes-on whole on =
+    → s′ ≡ reachedFrom s piece used
+    → Put buffer 0 (turnText s piece failed) end after
+    → full ≡ goesOn piece
+    → Whole (length piece) used full
+    → (more ≡ true → full ≡ true)
+    → Turned s buffer s′ end more after
+handed-on s s′ piece failed used end full more fits state text goes-on whole on =
     record {
       piece = piece;
       failed = failed;
@@ -37,11 +38,12 @@ handed-on s piece failed r more fits state text goes-on whole on =
 
 -- one more turn
 pub reached-on :
-    {at r : Progress} {buffer after : List ℕ} → Reached at → at .more ≡ true → Turned (at .state) buffer r after → Reached r
-reached-on {at} {r} h more t =
+    {s s′ : State} {more more′ : Bool} {buffer after : List ℕ} {end : ℕ}
+    → Reached s more → more ≡ true → Turned s buffer s′ end more′ after → Reached s′ more′
+reached-on h on t =
     let n = length (h .log) / recordBytes in
     let m = length (t .piece) / recordBytes in
-    let cut = h .cut more in
+    let cut = h .cut on in
     let k : length (h .log ++ t .piece) / recordBytes ≡ n + m = omega (arith, cut, length-append (h .log) (t .piece)) in
     record {
       log = h .log ++ t .piece;
@@ -52,3 +54,10 @@ reached-on {at} {r} h more t =
           ∙ ap (reachedFrom atStart (h .log ++ t .piece)) (sym k);
       cut = λ e. omega (arith, cut, t .full e, length-append (h .log) (t .piece));
     }
+
+-- the head is that of the state
+pub ended :
+    (r : Progress) (queues came air loads above waits : List ℕ)
+    → Reached (stateWith (r .head) queues came air loads above waits) (r .more) → Ended r
+ended r queues came air loads above waits h =
+    record { state = stateWith (r .head) queues came air loads above waits; head = refl; reached = h }

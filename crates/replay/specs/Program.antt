@@ -14,16 +14,23 @@ use Rattle.calllog.specs.Text.{reachedFrom, blockBytes, turnText}
 
 -- a piece was read and done on a state: all its whole records, and its text lies in the buffer; the program
 -- goes on only behind a full block
-pub record Turned (s : State) (buffer : List ℕ) (r : Progress) (after : List ℕ) : Type 0 where
+pub record Turned (s : State) (buffer : List ℕ) (s′ : State) (end : ℕ) (more : Bool) (after : List ℕ) :
+    Type 0 where
   pub piece : List ℕ
   pub failed : Bool
   pub fits : length piece ≤ blockBytes
-  pub state : r .state ≡ reachedFrom s piece (length piece / recordBytes)
-  pub text : Put buffer 0 (turnText s piece failed) (r .end) after
-  pub full : r .more ≡ true → length piece ≡ blockBytes
+  pub state : s′ ≡ reachedFrom s piece (length piece / recordBytes)
+  pub text : Put buffer 0 (turnText s piece failed) end after
+  pub full : more ≡ true → length piece ≡ blockBytes
 
--- the state is that of a log from its start, and a log that goes on is cut where a record ends
-pub record Reached (r : Progress) : Type 0 where
+-- a state is that of a log from its start, and a log that goes on is cut where a record ends
+pub record Reached (s : State) (more : Bool) : Type 0 where
   pub log : List ℕ
-  pub state : r .state ≡ reachedFrom atStart log (length log / recordBytes)
-  pub cut : r .more ≡ true → length log ≡ recordBytes * (length log / recordBytes)
+  pub state : s ≡ reachedFrom atStart log (length log / recordBytes)
+  pub cut : more ≡ true → length log ≡ recordBytes * (length log / recordBytes)
+
+-- the program ends with the head of such a state
+pub record Ended (r : Progress) : Type 0 where
+  pub state : State
+  pub head : r .head ≡ state .head
+  pub reached : Reached state (r .more)

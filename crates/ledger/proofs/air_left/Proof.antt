@@ -14,12 +14,12 @@ added-air c = air-added (c .args .base) (take (c .args .n) (c .args .slots .now)
 
 air-of-requires : tie.Need-air-of-requires
 air-of-requires c κs =
-    let a = added-air c in
-    (c .pre .0, (c .pre .1 .0, rw (← a) (c .pre .1 .1 .0)))
+    let a = added-air (c .before) in
+    (c .before .pre .0, (c .before .pre .1 .0, rw (← a) (c .before .pre .1 .1 .0)))
 
 allowed-from-requires : tie.Need-allowed-from-requires
 allowed-from-requires c κs =
-    let s = c .before in
+    let s = c .before .before in
     let e = c .air-of .ensures ∙ sym (added-air s) in
     (s .pre .0, (s .pre .1 .0, (e, (rw e (s .pre .1 .1 .0), s .pre .1 .1 .1))))
 

@@ -21,24 +21,24 @@ loop-holds c = (omega arith, omega arith)
 mul-ontime-in : tie.Need-mul-ontime-in Inv-loop μ-loop
 mul-ontime-in c = search needs
 
-element-copy-out-ontime-in : tie.Need-element-copy-out-ontime-in Inv-loop μ-loop
-element-copy-out-ontime-in c = search needs
+shared-slice-read-ontime-in : tie.Need-shared-slice-read-ontime-in Inv-loop μ-loop
+shared-slice-read-ontime-in c = search needs
 
 ontime-in-requires : tie.Need-ontime-in-requires Inv-loop μ-loop
 ontime-in-requires c κs = search needs
 
 -- what the next adds
-adds : (c : tie.After-ontime-in Inv-loop μ-loop) → (let a = c .before .before .before in let s = a .before in
+adds : (c : tie.After-ontime-in Inv-loop μ-loop) → (let a = c .before .before .before in let s = a .before .before in
     added (take (s .args .n) (s .args .slots .now))
     ≡ a .loop .sum + c .ontime-in .result + added (drop (a .loop .i + 1) (take (s .args .n) (s .args .slots .now))))
 adds c =
     let a = c .before .before .before in
-    let s = a .before in
+    let s = a .before .before in
     let e = added-next (s .args .slots .now) (s .args .n) (a .loop .i) (omega (arith, s .pre .0, s .pre .1 .0)) (omega arith) in
     omega (arith, a .loop .inv .1, e, c .ontime-in .ensures)
 
 add-sum : tie.Need-add-sum Inv-loop μ-loop
-add-sum c = omega (arith, adds c, c .before .before .before .before .pre .1 .1)
+add-sum c = omega (arith, adds c, c .before .before .before .before .before .pre .1 .1)
 
 add-i : tie.Need-add-i Inv-loop μ-loop
 add-i c = search needs
@@ -53,7 +53,7 @@ returns : tie.Need-returns Inv-loop μ-loop
 unfolding added
 returns c =
     let a = c .before in
-    let s = a .before in
+    let s = a .before .before in
     let e = done (s .args .slots .now) (s .args .n) (a .loop .i) (omega (arith, s .pre .0, s .pre .1 .0)) (omega arith) in
     omega (arith, a .loop .inv .1, ap added e)
 
@@ -65,7 +65,7 @@ air-of-spec =
     μ-loop
     loop-holds
     mul-ontime-in
-    element-copy-out-ontime-in
+    shared-slice-read-ontime-in
     ontime-in-requires
     add-sum
     add-i

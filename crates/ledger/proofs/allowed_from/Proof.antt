@@ -24,14 +24,14 @@ add-rest c = search needs
 
 loop-holds : tie.Need-loop-holds Inv-loop μ-loop
 loop-holds c = (
-  allow-begun (c .args .base) (c .args .n) (c .args .slots .now) _ _ _ (c .pre .1 .1 .0) (c .pre .1 .1 .1 .1),
-  omega (arith, c .pre .1 .1 .1 .0),
+  allow-begun (c .before .args .base) (c .before .args .n) (c .before .args .slots .now) _ _ _ (c .before .pre .1 .1 .0) (c .before .pre .1 .1 .1 .1),
+  omega (arith, c .before .pre .1 .1 .1 .0),
 )
 
 returns : tie.Need-returns Inv-loop μ-loop
 returns c =
     let a = c .before .before in
-    let s = a .before in
+    let s = a .before .before in
     allow-here (s .args .base) (s .args .n) (s .args .slots .now) (s .args .ontime) (s .args .time) (a .loop .rest)
     (a .loop .from) (a .loop .i) (a .loop .inv .0) (omega (arith, s .pre .0, s .pre .1 .0)) (omega arith)
     (omega (arith, c .if1 .taken))
@@ -39,8 +39,8 @@ returns c =
 mul-word : tie.Need-mul-word Inv-loop μ-loop
 mul-word c = search needs
 
-element-copy-out-word : tie.Need-element-copy-out-word Inv-loop μ-loop
-element-copy-out-word c = search needs
+shared-slice-read-word : tie.Need-shared-slice-read-word Inv-loop μ-loop
+shared-slice-read-word c = search needs
 
 time-in-requires : tie.Need-time-in-requires Inv-loop μ-loop
 time-in-requires c κs = search needs
@@ -48,7 +48,7 @@ time-in-requires c κs = search needs
 add-from : tie.Need-add-from Inv-loop μ-loop
 add-from c =
     let a = c .before .before .before .before in
-    let s = a .before in
+    let s = a .before .before in
     let t =
     next-timely (s .args .base) (s .args .n) (s .args .slots .now) (s .args .ontime) (s .args .time) (a .loop .rest)
     (a .loop .from) (a .loop .i) (a .loop .inv .0) (omega (arith, s .pre .0, s .pre .1 .0)) (omega arith)
@@ -64,7 +64,7 @@ module _ (c : tie.After-ontime-in Inv-loop μ-loop) where
   at = c .before .before .before .before .before
 
   abbrev entry : tie.Start Inv-loop μ-loop
-  entry = at .before
+  entry = at .before .before
 
   abbrev a : Admission
   a = admission (c .before .time-in .result) (c .ontime-in .result)
@@ -96,7 +96,7 @@ loop-less c = search needs
 loop-again : tie.Need-loop-again Inv-loop μ-loop
 loop-again c =
     let w = c .before .before .before .before .before in
-    let s = w .before in (
+    let s = w .before .before in (
       allow-next (s .args .base) (s .args .n) (s .args .slots .now) (s .args .ontime) (s .args .time) (w .loop .rest)
           (w .loop .from) (w .loop .i) (w .loop .inv .0) (room c) (omega arith) (a c) (as-read c) (omega arith),
       omega (arith, w .loop .inv .1),
@@ -105,7 +105,7 @@ loop-again c =
 returns-2 : tie.Need-returns-2 Inv-loop μ-loop
 returns-2 c =
     let a = c .before in
-    let s = a .before in
+    let s = a .before .before in
     allow-done (s .args .base) (s .args .n) (s .args .slots .now) (s .args .ontime) (s .args .time) (a .loop .rest)
     (a .loop .from) (a .loop .i) (a .loop .inv .0) (omega (arith, s .pre .0, s .pre .1 .0)) (omega arith)
 
@@ -119,7 +119,7 @@ allowed-from-spec =
     loop-holds
     returns
     mul-word
-    element-copy-out-word
+    shared-slice-read-word
     time-in-requires
     add-from
     ontime-in-requires

@@ -21,8 +21,8 @@ loop-holds c = step-begun _ _ _ _
 mul-word : tie.Need-mul-word Inv-loop μ-loop
 mul-word c = search needs
 
-element-copy-out-word : tie.Need-element-copy-out-word Inv-loop μ-loop
-element-copy-out-word c = search needs
+shared-slice-read-word : tie.Need-shared-slice-read-word Inv-loop μ-loop
+shared-slice-read-word c = search needs
 
 age-in-requires : tie.Need-age-in-requires Inv-loop μ-loop
 age-in-requires c κs = search needs
@@ -38,7 +38,7 @@ unfolding wellKept
 returns c =
     let g = c .before .before .age-in in
     let a = c .before .before .before .before .before in
-    let s = a .before in
+    let s = a .before .before in
     sym (rw (step-late (s .args .n) (s .args .slots .now) (s .args .first) (s .args .most) 0 (a .loop .before) (a .loop .air)
     (a .loop .i) (a .loop .inv) (omega (arith, s .pre .0, s .pre .1)) (omega arith)
     (omega (arith, c .if1 .taken, g .ensures .0))))
@@ -52,7 +52,7 @@ returns-2 c =
     let e = c .before .before in
     let o = e .before .ontime-in in
     let a = e .before .before .before .before .before in
-    let s = a .before in
+    let s = a .before .before in
     sym (rw (step-odd (s .args .n) (s .args .slots .now) (s .args .first) (s .args .most) 0 (a .loop .before) (a .loop .air)
     (a .loop .i) (a .loop .inv) (omega (arith, s .pre .0, s .pre .1)) (omega arith)
     (rw (← o .ensures) (sym (c .before .lies-within .ensures) ∙ not-true _ (c .if2 .taken)))))
@@ -61,7 +61,7 @@ add-air : tie.Need-add-air Inv-loop μ-loop
 add-air c =
     let e = c .before .before in
     let a = e .before .before .before .before .before in
-    omega (arith, a .loop .inv .few, a .before .pre .1, e .before .ontime-in .ensures)
+    omega (arith, a .loop .inv .few, a .before .before .pre .1, e .before .ontime-in .ensures)
 
 add-i : tie.Need-add-i Inv-loop μ-loop
 add-i c = search needs
@@ -75,7 +75,7 @@ loop-again c =
     let o = e .before .ontime-in in
     let g = e .before .before .age-in in
     let a = e .before .before .before .before .before in
-    let s = a .before in
+    let s = a .before .before in
     rw (g .ensures .0, o .ensures)
     (step-on (s .args .n) (s .args .slots .now) (s .args .first) (s .args .most) 0 (a .loop .before) (a .loop .air) (a .loop .i)
     (a .loop .inv) (omega (arith, s .pre .0, s .pre .1)) (omega arith) refl (omega (arith, e .if1 .left, g .ensures .0))
@@ -88,7 +88,7 @@ returns-3 : tie.Need-returns-3 Inv-loop μ-loop
 unfolding wellKept
 returns-3 c =
     let a = c .before in
-    let s = a .before in
+    let s = a .before .before in
     let d = step-done (s .args .n) (s .args .slots .now) (s .args .first) (s .args .most) 0 (a .loop .before) (a .loop .air)
     (a .loop .i) (a .loop .inv) (omega (arith, s .pre .0, s .pre .1)) (omega arith) in
     sym (rw (d .0, d .1))
@@ -101,7 +101,7 @@ are-few-kept-spec =
     μ-loop
     loop-holds
     mul-word
-    element-copy-out-word
+    shared-slice-read-word
     age-in-requires
     ontime-in-requires
     add-if1

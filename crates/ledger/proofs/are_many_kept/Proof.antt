@@ -22,11 +22,11 @@ abbrev turn : tie.After-above3 Inv-loop μ-loop → tie.At-loop Inv-loop μ-loop
 turn c = c .before .before .before .before .before .before .before
 
 -- what the walk tells
-walked : (c : tie.After-loop Inv-loop μ-loop) → (let s = c .before .before in let ws = take (s .args .n) (s .args .slots .now) in
+walked : (c : tie.After-loop Inv-loop μ-loop) → (let s = c .before .before .before in let ws = take (s .args .n) (s .args .slots .now) in
     (inStep (s .args .first) (s .args .most) ws ≡ eqb (c .before .loop .bits) 0) × (added ws ≡ c .before .loop .air))
 walked c =
     let a = c .before in
-    let s = a .before in
+    let s = a .before .before in
     step-done (s .args .n) (s .args .slots .now) (s .args .first) (s .args .most) (a .loop .bits) (a .loop .before) (a .loop .air)
     (a .loop .i) (a .loop .inv) (omega (arith, s .pre .0, s .pre .1)) (omega arith)
 
@@ -36,8 +36,8 @@ loop-holds c = step-begun _ _ _ _
 mul-word : tie.Need-mul-word Inv-loop μ-loop
 mul-word c = search needs
 
-element-copy-out-word : tie.Need-element-copy-out-word Inv-loop μ-loop
-element-copy-out-word c = search needs
+shared-slice-read-word : tie.Need-shared-slice-read-word Inv-loop μ-loop
+shared-slice-read-word c = search needs
 
 age-in-requires : tie.Need-age-in-requires Inv-loop μ-loop
 age-in-requires c κs = search needs
@@ -60,7 +60,7 @@ above-requires-3 c κs = search needs
 add-air : tie.Need-add-air Inv-loop μ-loop
 add-air c =
     let a = turn c in
-    omega (arith, a .loop .inv .few, a .before .pre .1, c .before .before .before .ontime-in .ensures)
+    omega (arith, a .loop .inv .few, a .before .before .pre .1, c .before .before .before .ontime-in .ensures)
 
 add-i : tie.Need-add-i Inv-loop μ-loop
 add-i c = search needs
@@ -74,7 +74,7 @@ loop-again c =
     let o = b .before .ontime-in in
     let g = b .before .before .age-in in
     let a = turn c in
-    let s = a .before in
+    let s = a .before .before in
     rw (g .ensures .0, o .ensures)
     (step-next (s .args .n) (s .args .slots .now) (s .args .first) (s .args .most) (a .loop .bits) (a .loop .before)
     (a .loop .air) (a .loop .i) (a .loop .inv) (omega (arith, s .pre .0, s .pre .1)) (omega arith) (b .above .result)
@@ -104,7 +104,7 @@ are-many-kept-spec =
     μ-loop
     loop-holds
     mul-word
-    element-copy-out-word
+    shared-slice-read-word
     age-in-requires
     ontime-in-requires
     add-above

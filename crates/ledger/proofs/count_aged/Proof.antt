@@ -22,8 +22,8 @@ loop-holds c = (omega arith, omega arith)
 mul-time-in : tie.Need-mul-time-in Inv-loop μ-loop
 mul-time-in c = search needs
 
-element-copy-out-time-in : tie.Need-element-copy-out-time-in Inv-loop μ-loop
-element-copy-out-time-in c = search needs
+shared-slice-read-time-in : tie.Need-shared-slice-read-time-in Inv-loop μ-loop
+shared-slice-read-time-in c = search needs
 
 time-in-requires : tie.Need-time-in-requires Inv-loop μ-loop
 time-in-requires c κs = search needs
@@ -35,7 +35,7 @@ returns : tie.Need-returns Inv-loop μ-loop
 returns c =
     let t = c .before .before in
     let a = t .before .before .before in
-    let s = a .before in
+    let s = a .before .before in
     let e =
     aged-next (s .args .slots .now) (s .args .n) (a .loop .k) (omega (arith, s .pre .0, s .pre .1)) (s .args .time)
     (s .args .base) (t .time-in .result) (t .time-in .ensures) (omega arith) in
@@ -51,7 +51,7 @@ loop-again : tie.Need-loop-again Inv-loop μ-loop
 loop-again c =
     let t = c .before .before in
     let a = t .before .before .before in
-    let s = a .before in
+    let s = a .before .before in
     let e =
     aged-next (s .args .slots .now) (s .args .n) (a .loop .k) (omega (arith, s .pre .0, s .pre .1)) (s .args .time)
     (s .args .base) (t .time-in .result) (t .time-in .ensures) (omega arith) in
@@ -61,7 +61,7 @@ returns-2 : tie.Need-returns-2 Inv-loop μ-loop
 unfolding agedIn
 returns-2 c =
     let a = c .before in
-    let s = a .before in
+    let s = a .before .before in
     let e = done (s .args .slots .now) (s .args .n) (a .loop .k) (omega (arith, s .pre .0, s .pre .1)) (omega arith) in
     omega (arith, a .loop .inv .1, ap (agedIn (s .args .time) (s .args .base)) e)
 
@@ -73,7 +73,7 @@ count-aged-spec =
     μ-loop
     loop-holds
     mul-time-in
-    element-copy-out-time-in
+    shared-slice-read-time-in
     time-in-requires
     is-young-requires
     returns

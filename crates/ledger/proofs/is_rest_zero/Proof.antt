@@ -20,8 +20,8 @@ loop-holds c = (c .pre .1, refl)
 mul-bits : tie.Need-mul-bits Inv-loop μ-loop
 mul-bits c = search needs
 
-element-copy-out-bits : tie.Need-element-copy-out-bits Inv-loop μ-loop
-element-copy-out-bits c = search needs
+shared-slice-read-bits : tie.Need-shared-slice-read-bits Inv-loop μ-loop
+shared-slice-read-bits c = search needs
 
 add-j : tie.Need-add-j Inv-loop μ-loop
 add-j c = search needs
@@ -52,7 +52,7 @@ is-rest-zero-spec =
     μ-loop
     loop-holds
     mul-bits
-    element-copy-out-bits
+    shared-slice-read-bits
     add-j
     loop-less
     loop-again

@@ -14,11 +14,11 @@ use Rattle.ledger.proofs.is_sound.Statement.{statement}
 use Rattle.ledger.proofs.is_sound.Tie as tie
 
 -- where admissions are held
-unsound : (c : tie.Else3) → (let s = c .before .before in
+unsound : (c : tie.Else3) → (let s = c .before .before .before in
     (Newest (s .args .time) (s .args .last) (s .args .n) (s .args .slots .now) → ⊥)
     → false ≡ soundLedger (s .args .profile) (s .args .time) (s .args .last) (ledgerOf (s .args .n) (s .args .slots .now)))
 unsound c f =
-    let s = c .before .before in
+    let s = c .before .before .before in
     sym (not-newest (s .args .profile) (s .args .time) (s .args .last) (s .args .slots .now) (s .args .n)
     (omega (arith, c .before .if1 .left)) (omega (arith, s .pre .0, c .if3 .left)) f)
 
@@ -26,7 +26,7 @@ unsound c f =
 abbrev held : tie.Else7 → tie.Else3
 held c = c .before .before .before .before .before .before .before .before
 
-newest : (c : tie.Else7) → (let s = held c .before .before in
+newest : (c : tie.Else7) → (let s = held c .before .before .before in
     Newest (s .args .time) (s .args .last) (s .args .n) (s .args .slots .now))
 newest c =
     let r = c .before .before .before .before .before .before in
@@ -38,7 +38,7 @@ newest c =
     }
 
 -- and then it goes by its words and its unused places
-by-both : (c : tie.After-is-well-kept) → (let s = held (c .before .before .before .before) .before .before in
+by-both : (c : tie.After-is-well-kept) → (let s = held (c .before .before .before .before) .before .before .before in
     soundLedger (s .args .profile) (s .args .time) (s .args .last) (ledgerOf (s .args .n) (s .args .slots .now))
     ≡ (c .is-well-kept .result && allAre isUnused (drop (s .args .n) (s .args .slots .now))))
 by-both c =
@@ -46,7 +46,7 @@ by-both c =
     let y = m .before .before in
     let e = y .before in
     let h = held e in
-    let s = h .before .before in
+    let s = h .before .before .before in
     rw (c .is-well-kept .ensures, m .most-ontime .ensures, y .young-from .ensures)
     (by-steps (s .args .profile) (s .args .time) (s .args .last) (s .args .slots .now) (s .args .n)
     (omega (arith, h .before .if1 .left)) (omega (arith, s .pre .0, h .if3 .left)) (h .if3 .left) (newest e))
@@ -58,7 +58,7 @@ returns : tie.Need-returns
 returns c =
     let r = c .before .is-recent in
     let e = c .before .before in
-    let s = e .before in
+    let s = e .before .before in
     sym (rw (e .if1 .taken)
     (none-noted (s .args .profile) (s .args .time) (s .args .last) (s .args .slots .now) (sym (r .ensures) ∙ c .if2 .taken)))
 
@@ -69,7 +69,7 @@ returns-2 : tie.Need-returns-2
 returns-2 c =
     let b = c .before in
     let e = b .before .before in
-    let s = e .before in
+    let s = e .before .before in
     c .is-rest-zero .ensures
     ∙ sym (rw (e .if1 .taken)
     (none-held (s .args .profile) (s .args .time) (s .args .last) (s .args .slots .now)
@@ -77,7 +77,7 @@ returns-2 c =
 
 returns-3 : tie.Need-returns-3
 returns-3 c =
-    let s = c .before .before in
+    let s = c .before .before .before in
     sym (too-long (s .args .profile) (s .args .time) (s .args .last) (s .args .slots .now) (s .args .n) (c .if3 .taken))
 
 is-recent-requires-2 : tie.Need-is-recent-requires-2
@@ -97,8 +97,8 @@ sub-newest c = search needs
 mul-newest : tie.Need-mul-newest
 mul-newest c = search needs
 
-element-copy-out-newest : tie.Need-element-copy-out-newest
-element-copy-out-newest c = search needs
+shared-slice-read-newest : tie.Need-shared-slice-read-newest
+shared-slice-read-newest c = search needs
 
 returns-6 : tie.Need-returns-6
 returns-6 c = unsound (c .before .before .before .before .before .before .before) (λ h. c .if6 .taken (h .word))
@@ -153,7 +153,7 @@ is-sound-spec =
     returns-5
     sub-newest
     mul-newest
-    element-copy-out-newest
+    shared-slice-read-newest
     returns-6
     returns-7
     young-from-requires

@@ -1,7 +1,7 @@
 -- The loop's invariant: the words passed are older by the gap, the others as they were. A store behind them follows.
 use Prim.Native.Nat.{_+_, _-_, _*_, _≤_}
-use mathlib.Core.Path.{_≡_, refl}
-use lib.ListN.{take, getD}
+use mathlib.Core.Path.{_≡_, refl, _∙_, sym}
+use lib.ListN.{length, take, getD, length-set}
 use borrow.Author.Needs.{needs}
 use borrow.Author.Tests.{eq-eqb, ne-eqb}
 use native.Mathlib.Omega.{arith}
@@ -12,7 +12,7 @@ use Rattle.ledger.proofs.put_newest.Statement.{statement}
 use Rattle.ledger.proofs.put_newest.Tie as tie
 
 abbrev Inv-loop : tie.InvT-loop
-Inv-loop n slots₀ gap ontime more i₀ slots i = (i ≤ n) × (slots ≡ moved gap i slots₀)
+Inv-loop n slots₀ gap ontime more i₀ slots i = (i ≤ n) × (slots ≡ moved gap i slots₀) × (length slots ≡ places)
 
 abbrev μ-loop : tie.MeasureT-loop
 μ-loop n slots₀ gap ontime more i₀ slots i = n - i
@@ -39,13 +39,13 @@ unfolding putNewest
 returns c = rw (eq-eqb _ _ (c .if1 .taken))
 
 loop-holds : tie.Need-loop-holds Inv-loop μ-loop
-loop-holds c = (omega arith, refl)
+loop-holds c = (omega arith, refl, c .before .pre .0)
 
 mul-slots : tie.Need-mul-slots Inv-loop μ-loop
 mul-slots c = omega (arith, room (c .before .before) .0)
 
-element-copy-out-slots : tie.Need-element-copy-out-slots Inv-loop μ-loop
-element-copy-out-slots c = omega (arith, room (c .before .before) .0)
+slice-read-slots : tie.Need-slice-read-slots Inv-loop μ-loop
+slice-read-slots c = omega (arith, room (c .before .before .before) .0, c .before .before .loop .inv .2)
 
 cast-slots : tie.Need-cast-slots Inv-loop μ-loop
 cast-slots c = omega (arith, fits (c .before))
@@ -59,8 +59,8 @@ add-slots c = omega (arith, fits (c .before))
 mul-slots-3 : tie.Need-mul-slots-3 Inv-loop μ-loop
 mul-slots-3 c = omega (arith, room (c .before .before .before) .0)
 
-element-write-slots : tie.Need-element-write-slots Inv-loop μ-loop
-element-write-slots c = omega (arith, room (c .before .before .before) .0)
+slice-write-slots : tie.Need-slice-write-slots Inv-loop μ-loop
+slice-write-slots c = omega (arith, room (c .before .before .before) .0, c .before .before .loop .inv .2)
 
 add-i : tie.Need-add-i Inv-loop μ-loop
 add-i c = omega (arith, room (c .before .before .before) .0)
@@ -75,13 +75,17 @@ loop-again c =
       omega arith,
       move-next (s .args .gap) (a .loop .i) (s .args .slots .now) (a .loop .slots)
           (omega (arith, s .pre .0, room (a .before) .0)) (a .loop .inv .1),
+      simp length-set (a .loop .inv .2),
     )
 
 mul-slots-4 : tie.Need-mul-slots-4 Inv-loop μ-loop
 mul-slots-4 c = omega (arith, room (c .before .before) .0)
 
-element-write-slots-2 : tie.Need-element-write-slots-2 Inv-loop μ-loop
-element-write-slots-2 c = omega (arith, room (c .before .before) .0)
+slice-write-slots-2 : tie.Need-slice-write-slots-2 Inv-loop μ-loop
+slice-write-slots-2 c = omega (arith, room (c .before .before) .0, c .before .loop .inv .2)
+
+same-length : tie.Need-same-length Inv-loop μ-loop
+same-length c = simp length-set (c .before .loop .inv .2 ∙ sym (c .before .before .before .pre .0))
 
 returns-2 : tie.Need-returns-2 Inv-loop μ-loop
 unfolding putNewest
@@ -100,15 +104,16 @@ put-newest-spec =
     returns
     loop-holds
     mul-slots
-    element-copy-out-slots
+    slice-read-slots
     cast-slots
     mul-slots-2
     add-slots
     mul-slots-3
-    element-write-slots
+    slice-write-slots
     add-i
     loop-less
     loop-again
     mul-slots-4
-    element-write-slots-2
+    slice-write-slots-2
+    same-length
     returns-2)

@@ -4,7 +4,7 @@ use mathlib.Core.Path.{_≡_, _∙_, sym, refl}
 use lib.ListN.{length, take, drop}
 use borrow.Author.Tests.{not-true, not-false}
 use native.Mathlib.Omega.{arith}
-use Rattle.queue.proofs.Walk.{next, done}
+use Rattle.checks.proofs.Walk.{next, done}
 use Rattle.model.specs.Packets.{inOrder}
 use Rattle.line.specs.Line.{allowedPacket}
 use Rattle.line.proofs.Known.{twenty}

@@ -8,12 +8,12 @@ use native.Mathlib.Numerals.{add-one}
 use native.Mathlib.Omega.{arith}
 use Rattle.packing.specs.Packing.{allAre}
 use Rattle.model.specs.Packets.{noPacket}
-use Rattle.queue.specs.Layout.{isZero}
+use Rattle.checks.specs.Checks.{isZero}
 use Rattle.line.proofs.Known.{twenty}
 use borrow.Author.Needs.{needs}
 use Rattle.line.proofs.is_rest_zero.Statement.{statement}
 use Rattle.line.proofs.is_rest_zero.Tie as tie
-use Rattle.queue.proofs.is_zero.Reads as is-zero-reads
+use Rattle.checks.proofs.is_zero.Reads as is-zero-reads
 
 abbrev Inv-loop : tie.InvT-loop
 Inv-loop l i₀ i = (i ≤ 20) × (allAre isZero (drop (l .len) (l .packets)) ≡ allAre isZero (drop i (l .packets)))

@@ -5,6 +5,8 @@ use mathlib.Core.Bool.{Bool, true}
 use native.Mathlib.Omega.{arith}
 use denote.Ref.{now}
 use lib.ListN.{length, take}
+use Rattle.gate.specs.declared.State.{State}
+use Rattle.gate.specs.Layout.{stateWith}
 use Rattle.calllog.specs.Text.{blockBytes}
 use Rattle.replay.specs.Program.{Turned}
 use Rattle.replay.proofs.Program.{handed-on}
@@ -12,41 +14,72 @@ use borrow.Author.Needs.{needs}
 use Rattle.replay.proofs.step.Statement.{statement}
 use Rattle.replay.proofs.step.Tie as tie
 
+-- the state that the function is given, and the one that the turn leaves
+abbrev given : tie.Start → State
+given s =
+    stateWith (s .args .head) (now (s .args .queues)) (now (s .args .came)) (now (s .args .air)) (now (s .args .loads))
+    (now (s .args .above)) (now (s .args .waits))
+
+abbrev left : tie.After-turn → State
+left u =
+    let t = u .turn in
+    stateWith (t .result .head) (t .last .1 .0) (t .last .1 .1 .0) (t .last .1 .1 .1 .0) (t .last .1 .1 .1 .1 .0)
+    (t .last .1 .1 .1 .1 .1 .0) (t .last .1 .1 .1 .1 .1 .1 .0)
+
+-- the function's start, seen from the turn
+abbrev start : tie.After-turn → tie.Start
+start u = u .before .before .before .before .before .before .before .before .before .before .before .before .before .before
+    .before .before .before .before .before .before
+
+-- what was read before it
+abbrev filled : tie.After-turn → tie.After-fill
+filled u = u .before .before .before .before .before .before .before .before .before .before .before
+
 -- the turn as the program says it, for a flag that is on only where the turn's own is
 handed :
     (u : tie.After-turn) (more : Bool) → (more ≡ true → u .turn .result .more ≡ true)
-    → Turned (u .before .before .before .before .before .before .before .before .args .state)
-    (now (u .before .before .before .before .before .before .before .before .args .out))
-    (record {
-      state = u .turn .result .state;
-      used = u .turn .result .used;
-      end = u .turn .result .end;
-      more = more;
-    })
-    (u .turn .last .1 .1 .1 .0)
+    → Turned (given (start u)) (now (start u .args .out)) (left u) (u .turn .result .end) more
+    (u .turn .last .1 .1 .1 .1 .1 .1 .1 .1 .1 .0)
 handed u more on =
-    let f = u .before .before .before .before .before .fill in
-    let s = u .before .before .before .before .before .before .before .before in
+    let s = start u in
+    let f = filled u .fill in
     let t = u .turn in
     let piece = take (f .result .bytes) (f .last .0) in
-    let fits : length piece ≤ blockBytes = omega (arith, f .kept, f .ensures, s .pre) in
-    handed-on (s .args .state) piece (f .result .failed) (t .result) more fits (t .ensures .1 .0) (t .ensures .1 .1 .0)
-    (t .ensures .1 .1 .1 .0) (t .ensures .1 .1 .1 .1 .0 fits) on
+    let fits : length piece ≤ blockBytes = omega (arith, f .kept, f .ensures, s .pre .1) in
+    handed-on (given s) (left u) piece (f .result .failed) (t .result .used) (t .result .end) (t .result .more) more fits
+    (t .ensures .1 .0) (t .ensures .1 .1 .0) (t .ensures .1 .1 .1 .0) (t .ensures .1 .1 .1 .1 .0 fits) on
+
+-- the turn, seen from where the function returns
+abbrev turned : tie.Then3 → tie.After-turn
+turned c =
+    c .before .before .before .before .before .before .before .before .before .before .before .before .before
+    .before .before .before .before .before
+
+abbrev turned-2 : tie.Else3 → tie.After-turn
+turned-2 c =
+    c .before .before .before .before .before .before .before .before .before .before .before .before .before
+    .before .before .before .before .before
 
 fill-requires : tie.Need-fill-requires
 fill-requires c κs = search needs
 
-slice-reshare-prefix-turn : tie.Need-slice-reshare-prefix-turn
-slice-reshare-prefix-turn c = search needs
+slice-reshare-prefix-piece : tie.Need-slice-reshare-prefix-piece
+slice-reshare-prefix-piece c = search needs
 
-slice-aggregate-turn : tie.Need-slice-aggregate-turn
-slice-aggregate-turn c = search needs
+slice-aggregate-piece : tie.Need-slice-aggregate-piece
+slice-aggregate-piece c = search needs
 
 turn-requires : tie.Need-turn-requires
-turn-requires c κs = search needs
+turn-requires c κs =
+    let at-entry = c .before .before .before .before .before .before .before .before .before .before .before .before .before
+    .before .before .before .before .before .before in
+    at-entry .pre .0
 
 write-text-requires : tie.Need-write-text-requires
-write-text-requires c κs = search needs
+write-text-requires c κs =
+    let at-turn = c .before .before .before .before .before .before .before .before .before .before .before .before .before
+    .before .before in
+    at-turn .turn .ensures .1 .1 .1 .1 .1
 
 slice-aggregate-write-all : tie.Need-slice-aggregate-write-all
 slice-aggregate-write-all c = search needs
@@ -55,32 +88,77 @@ write-all-requires : tie.Need-write-all-requires
 write-all-requires c κs = search needs
 
 same-length : tie.Need-same-length
-same-length c = search needs
-
-returns : tie.Need-returns
-returns c =
-    let u = c .before .before .before .before .before .before in
-    handed u (u .turn .result .more) (λ e. e)
+same-length c = omega (arith, turned c .turn .kept)
 
 same-length-2 : tie.Need-same-length-2
-same-length-2 c = search needs
+same-length-2 c = omega (arith, turned c .turn .kept)
+
+same-length-3 : tie.Need-same-length-3
+same-length-3 c = omega (arith, turned c .turn .kept)
+
+same-length-4 : tie.Need-same-length-4
+same-length-4 c = omega (arith, turned c .turn .kept)
+
+same-length-5 : tie.Need-same-length-5
+same-length-5 c = omega (arith, turned c .turn .kept)
+
+same-length-6 : tie.Need-same-length-6
+same-length-6 c = omega (arith, turned c .turn .kept)
+
+same-length-7 : tie.Need-same-length-7
+same-length-7 c = omega (arith, filled (turned c) .fill .kept)
+
+returns : tie.Need-returns
+returns c = let u = turned c in handed u (u .turn .result .more) (λ e. e)
+
+same-length-8 : tie.Need-same-length-8
+same-length-8 c = omega (arith, turned-2 c .turn .kept)
+
+same-length-9 : tie.Need-same-length-9
+same-length-9 c = omega (arith, turned-2 c .turn .kept)
+
+same-length-10 : tie.Need-same-length-10
+same-length-10 c = omega (arith, turned-2 c .turn .kept)
+
+same-length-11 : tie.Need-same-length-11
+same-length-11 c = omega (arith, turned-2 c .turn .kept)
+
+same-length-12 : tie.Need-same-length-12
+same-length-12 c = omega (arith, turned-2 c .turn .kept)
+
+same-length-13 : tie.Need-same-length-13
+same-length-13 c = omega (arith, turned-2 c .turn .kept)
+
+same-length-14 : tie.Need-same-length-14
+same-length-14 c = omega (arith, filled (turned-2 c) .fill .kept)
 
 returns-2 : tie.Need-returns-2
-returns-2 c =
-    handed (c .before .before .before .before .before .before) (c .before .before .write-text .result) (λ e. cc (e, c .if3 .left))
+returns-2 c = handed (turned-2 c) (c .before .before .write-text .result) (λ e. cc (e, c .if3 .left))
 
 pub step-spec : {M : Type 1} → statement M
 step-spec =
     tie.close
     (tie.spec
     fill-requires
-    slice-reshare-prefix-turn
-    slice-aggregate-turn
+    slice-reshare-prefix-piece
+    slice-aggregate-piece
     turn-requires
     write-text-requires
     slice-aggregate-write-all
     write-all-requires
     same-length
-    returns
     same-length-2
+    same-length-3
+    same-length-4
+    same-length-5
+    same-length-6
+    same-length-7
+    returns
+    same-length-8
+    same-length-9
+    same-length-10
+    same-length-11
+    same-length-12
+    same-length-13
+    same-length-14
     returns-2)

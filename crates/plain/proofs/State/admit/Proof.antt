@@ -12,10 +12,10 @@ remove-requires c κs = search needs
 note-requires : tie.Need-note-requires
 note-requires c κs =
     let k = known _ (c .before .pre .0) in
-    (k .ledger-tight, (c .before .pre .1, (k .last-past, k .none-aged)))
+    (k .ledger-tight, (c .before .pre .1, (k .groups .last-past, k .groups .none-aged)))
 
 add-counts : tie.Need-add-counts
-add-counts c = let k = known _ (c .before .before .before .before .pre .0) in omega (arith, k .sum, k .most)
+add-counts c = let k = known _ (c .before .before .before .before .pre .0) in omega (arith, k .sum, k .groups .most)
 
 returns : tie.Need-returns
 returns c = admitted (c .before .before .before .before .args .self) (c .before .before .before .before .args .p) _ _

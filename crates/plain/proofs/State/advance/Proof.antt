@@ -6,7 +6,7 @@ use Rattle.plain.proofs.State.advance.Statement.{statement}
 use Rattle.plain.proofs.State.advance.Tie as tie
 
 clock-at-requires : tie.Need-clock-at-requires
-clock-at-requires c κs = known _ (c .before .pre) .time
+clock-at-requires c κs = known _ (c .before .pre) .groups .time
 
 age-requires : tie.Need-age-requires
 age-requires c κs =

@@ -6,71 +6,90 @@ use native.Mathlib.Omega.{arith}
 use lib.Dec.{leb}
 use borrow.Author.Tests.{le-leb, not-true, not-false}
 use Rattle.plain.proofs.Known.{forty-of}
-use Rattle.plain.proofs.Judged.{no, unsound-live, unsound-way, unsound-control, unsound-time, unsound-last, unsound-line}
-use Rattle.plain.proofs.Judged.{unsound-counts, in-time, by-ledger, ledger-tight, laid-out}
+use Rattle.ledger.proofs.Sound.{sound-packed}
+use Rattle.ledger.specs.Layout.{soundLedger}
+use Rattle.line.specs.Layout.{soundLine}
+use Rattle.line.proofs.Packing.{packed-length}
+use Rattle.checks.proofs.Judged.{in-time, no, unsound-live, unsound-way, unsound-control, unsound-time, unsound-last}
+use Rattle.checks.proofs.Judged.{unsound-waiting, unsound-counts, by-ledger}
+use Rattle.plain.specs.Layout.{viewOf, soundState}
+use Rattle.plain.proofs.Views.{packedIn, keptIn, laid-out}
 use borrow.Author.Needs.{needs}
 use Rattle.plain.proofs.State.is_sound.Statement.{statement}
 use Rattle.plain.proofs.State.is_sound.Tie as tie
 
 returns : tie.Need-returns
-returns c = no _ _ (unsound-live (c .before .before .args .self) (c .if1 .taken))
+unfolding soundState
+returns c = let s = c .before .before .args .self in no _ _ (unsound-live (packedIn s) (keptIn s) (viewOf s) (c .if1 .taken))
 
 returns-2 : tie.Need-returns-2
-returns-2 c = no _ _ (unsound-way (c .before .before .before .before .args .self) (omega (arith, c .if2 .taken)))
+unfolding soundState
+returns-2 c =
+    let s = c .before .before .before .before .args .self in
+    no _ _ (unsound-way (packedIn s) (keptIn s) (viewOf s) (omega (arith, c .if2 .taken)))
 
 is-sound-requires : tie.Need-is-sound-requires
 is-sound-requires c κs = search needs
 
 returns-3 : tie.Need-returns-3
+unfolding soundState
 returns-3 c =
     let control = c .before in
     let way = control .before .before .before .before in
-    no _ _ (unsound-control (way .before .before .before .before .args .self)
+    let s = way .before .before .before .before .args .self in
+    no _ _ (unsound-control (packedIn s) (keptIn s) (viewOf s)
     (sym (c .before .is-sound .ensures) ∙ not-true _ (c .if3 .taken)))
 
 passes-end-requires : tie.Need-passes-end-requires
 passes-end-requires c κs = search needs
 
 returns-4 : tie.Need-returns-4
+unfolding soundState
 returns-4 c =
     let control = c .before .before .before in
     let way = control .before .before .before .before in
-    no _ _ (unsound-time (way .before .before .before .before .args .self)
+    let s = way .before .before .before .before .args .self in
+    no _ _ (unsound-time (packedIn s) (keptIn s) (viewOf s)
     (sym (c .before .passes-end .ensures) ∙ c .if4 .taken))
 
 is-last-sound-requires : tie.Need-is-last-sound-requires
 is-last-sound-requires c κs = search needs
 
 returns-5 : tie.Need-returns-5
+unfolding soundState
 returns-5 c =
     let control = c .before .before .before .before .before .before in
     let way = control .before .before .before .before in
-    no _ _ (unsound-last (way .before .before .before .before .args .self)
+    let s = way .before .before .before .before .args .self in
+    no _ _ (unsound-last (packedIn s) (keptIn s) (viewOf s)
     (sym (c .before .is-last-sound .ensures) ∙ not-true _ (c .if5 .taken)))
 
 is-sound-requires-2 : tie.Need-is-sound-requires-2
 is-sound-requires-2 c κs = search needs
 
 returns-6 : tie.Need-returns-6
+unfolding soundState soundLine
 returns-6 c =
     let line = c .before in
     let last = line .before .before .before in
     let time = last .before .before .before in
     let way = time .before .before .before .before .before .before in
-    let s = way .before .before .before .before in
-    no _ _ (unsound-line (s .args .self) (sym (line .is-sound2 .ensures .0) ∙ not-true _ (c .if6 .taken)))
+    let s = way .before .before .before .before .args .self in
+    no _ _ (unsound-waiting (packedIn s) (keptIn s) (viewOf s) (sym (line .is-sound2 .ensures .0) ∙ not-true _ (c .if6 .taken)))
 
 are-counts-sound-requires : tie.Need-are-counts-sound-requires
 are-counts-sound-requires c κs = search needs
 
 returns-7 : tie.Need-returns-7
+unfolding soundState
 returns-7 c =
     let line = c .before .before .before .before in
     let time = line .before .before .before .before .before .before in
     let way = time .before .before .before .before .before .before in
-    let s = way .before .before .before .before in
+    let s = way .before .before .before .before .args .self in
     let tight = line .is-sound2 .ensures .1 (not-false _ (c .before .before .before .if6 .left)) in
-    no _ _ (unsound-counts (s .args .self) tight (sym (c .before .are-counts-sound .ensures) ∙ not-true _ (c .if7 .taken)))
+    no _ _ (unsound-counts (packedIn s) (keptIn s) (viewOf s) _ (packed-length (s .line) tight)
+    (sym (c .before .are-counts-sound .ensures) ∙ not-true _ (c .if7 .taken)))
 
 is-ledger-sound-requires : tie.Need-is-ledger-sound-requires
 is-ledger-sound-requires c κs =
@@ -79,6 +98,7 @@ is-ledger-sound-requires c κs =
     ∙ c .before .before .before .before .before .before .before .before .before .before .if4 .left)
 
 returns-8 : tie.Need-returns-8
+unfolding soundState soundLine soundLedger
 returns-8 c =
     let counts = c .before .before .before in
     let line = counts .before .before .before in
@@ -89,17 +109,19 @@ returns-8 c =
     let live = way .before .before in
     let s = live .before .before in
     let tight = line .is-sound2 .ensures .1 (not-false _ (counts .before .before .if6 .left)) in
-    let old-or-new : leb (s .args .self .oldway) 1 ≡ true =
-    le-leb (s .args .self .oldway) 1 (omega (arith, way .if2 .left)) in
+    let g = s .args .self in
+    let old-or-new : g .oldway ≤ 1 = omega (arith, way .if2 .left) in
     let steered = sym (control .is-sound .ensures) ∙ not-false _ (time .before .if3 .left) in
     let timely = sym (time .passes-end .ensures) ∙ last .before .before .if4 .left in
     let lasting = sym (last .is-last-sound .ensures) ∙ not-false _ (line .before .before .if5 .left) in
     let lined = sym (line .is-sound2 .ensures .0) ∙ not-false _ (counts .before .before .if6 .left) in
     let counted = sym (counts .are-counts-sound .ensures) ∙ not-false _ (c .before .before .if7 .left) in
-    let same = by-ledger (s .args .self) (live .if1 .left) old-or-new steered timely lasting lined tight counted in (
+    let same = by-ledger (packedIn g) (keptIn g) (viewOf g) _ (packed-length (g .line) tight) (live .if1 .left) old-or-new
+    steered timely lasting lined counted in (
       c .is-ledger-sound .ensures ∙ sym same,
-      λ z. laid-out (s .args .self) tight
-          (ledger-tight (s .args .self) (forty-of (s .args .self) _ (s .good .0)) (sym (c .is-ledger-sound .ensures) ∙ z)),
+      λ z. laid-out g tight
+          (sound-packed (g .profile) (g .clock .time) (g .last) (g .ledger) (sym (c .is-ledger-sound .ensures) ∙ z)
+          (forty-of g _ (s .good .0))),
     )
 
 pub is-sound-spec : {M : Type 1} → statement M

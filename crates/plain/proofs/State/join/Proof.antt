@@ -13,7 +13,7 @@ use Rattle.plain.proofs.State.join.Statement.{statement}
 use Rattle.plain.proofs.State.join.Tie as tie
 
 add-counts : tie.Need-add-counts
-add-counts c = let k = known _ (c .before .before .before .pre .0) in omega (arith, k .most)
+add-counts c = let k = known _ (c .before .before .before .pre .0) in omega (arith, k .groups .most)
 
 count-of-requires : tie.Need-count-of-requires
 count-of-requires c κs = search needs
@@ -23,7 +23,7 @@ remove-requires c κs = search needs
 
 add-counts-2 : tie.Need-add-counts-2
 add-counts-2 c = let k = known _ (c .before .before .before .before .before .before .before .pre .0) in
-    omega (arith, k .sum, k .most)
+    omega (arith, k .sum, k .groups .most)
 
 push-requires : tie.Need-push-requires
 push-requires c κs = search needs

@@ -2,8 +2,8 @@
 use Prim.Native.Nat.{ℕ, max}
 use mathlib.Core.Path.{_≡_, sym, _∙_, ap, ap₂}
 use Rattle.control.specs.Wait.{closedWith}
-use Rattle.decide.specs.Decisions.{leftAt}
-use Rattle.decide.proofs.Closing.{left-waits}
+use Rattle.checks.specs.Checks.{leftAt}
+use Rattle.checks.proofs.Closing.{left-waits}
 use Rattle.plain.specs.Layout.{viewOf}
 use Rattle.plain.proofs.Views.{known}
 use borrow.Author.Needs.{needs}
@@ -14,15 +14,15 @@ wait-requires : tie.Need-wait-requires
 wait-requires c κs = search needs
 
 closed-after-requires : tie.Need-closed-after-requires
-closed-after-requires c κs = let k = known _ (c .before .before .before .before .pre) in (k .control, k .last-air)
+closed-after-requires c κs = let k = known _ (c .before .before .before .before .pre) in (k .groups .control, k .groups .last-air)
 
 left-of-requires : tie.Need-left-of-requires
-left-of-requires c κs = known _ (c .before .before .before .before .before .pre) .last-past
+left-of-requires c κs = known _ (c .before .before .before .before .before .pre) .groups .last-past
 
 air-left-requires : tie.Need-air-left-requires
 air-left-requires c κs =
     let k = known _ (c .before .before .before .before .before .before .pre) in
-    (k .few, (k .air, k .in-time))
+    (k .few, (k .groups .ledger .sum, k .in-time))
 
 longer-requires : tie.Need-longer-requires
 longer-requires c κs = search needs

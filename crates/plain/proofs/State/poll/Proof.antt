@@ -1,14 +1,45 @@
 -- Refused; or nothing waits, or the packet picked waits or goes.
-use mathlib.Core.Path.{sym, _∙_}
+use mathlib.Core.Path.{_≡_, sym, _∙_}
+use native.Mathlib.Omega.{arith}
+use Rattle.model.specs.Packets.{chosen}
 use Rattle.model.specs.Calls.{poll}
-use Rattle.model.specs.Effects.{refreshed, effect}
-use Rattle.plain.specs.Layout.{viewOf}
-use Rattle.plain.proofs.Views.{given-of, sound-parts}
-use Rattle.plain.proofs.Polling.{picks-at, left-at, idles, closes, sends, room-left}
-use Rattle.plain.proofs.Entry.{entered, refreshed-given, entry-refused, accepted, none-own}
+use Rattle.model.specs.Effects.{refreshed}
+use Rattle.line.specs.Line.{Listed, without, picked}
+use Rattle.checks.specs.Checks.{Entered}
+use Rattle.checks.proofs.Engine.{sound-view}
+use Rattle.checks.proofs.Entry.{refreshed-sound}
+use Rattle.checks.proofs.Polling.{idles, closes, sends, room-left}
+use Rattle.plain.specs.Layout.{viewOf, soundState, Given, callOn}
+use Rattle.plain.proofs.Views.{engine, given-of}
+use Rattle.plain.proofs.Polling.{picks-none, picks-at, ledger-len}
+use Rattle.plain.proofs.Entry.{entered, entry-refused}
 use borrow.Author.Needs.{needs}
 use Rattle.plain.proofs.State.poll.Statement.{statement}
 use Rattle.plain.proofs.State.poll.Tie as tie
+
+-- the call passed the checks of every call
+enters : (c : tie.Else1) → Entered (soundState (c .before .before .args .self)) (c .before .before .args .self .clock)
+    (c .before .before .args .stamp)
+enters c =
+    entered (c .before .before .args .self) (c .before .before .args .stamp) (sym (c .before .refusal .ensures .0) ∙ c .if1 .left)
+
+-- the expired are gone
+abbrev then : tie.After-refresh → Listed
+then c = let s = c .before .before .before in refreshed (viewOf (s .args .self)) (s .args .stamp)
+
+then-given : (c : tie.After-refresh) → Given (c .refresh .result)
+unfolding soundState
+then-given c =
+    let s = c .before .before .before in
+    given-of _ _ (c .refresh .ensures) (refreshed-sound engine (s .args .self) (s .args .stamp) (enters (c .before)))
+
+-- a packet is picked
+picks : (c : tie.After-pick)
+    → picked (then (c .before .before .before) .waiting)
+    ≡ chosen (c .pick .result) (without (c .pick .result .priority) (then (c .before .before .before) .waiting))
+picks c =
+    let a = c .before .before .before in
+    picks-at (a .refresh .result) (then a) (a .refresh .ensures) (c .pick .result) (c .before .if2 .left) (c .pick .ensures)
 
 refusal-requires : tie.Need-refusal-requires
 refusal-requires c κs = search needs
@@ -23,80 +54,51 @@ returns c =
     ∙ entry-refused (s .args .self) (poll (s .args .stamp)) _ (c .before .before .refusal .ensures .0) (c .before .if1 .taken)
 
 refresh-requires : tie.Need-refresh-requires
-refresh-requires c κs =
-    let s = c .before .before in
-    let e = entered (s .args .self) (s .args .stamp) (sym (c .before .refusal .ensures .0) ∙ c .if1 .left) in
-    (c .before .refusal .ensures .1 (c .if1 .left), sound-parts _ (e .is-sound) .2)
+unfolding soundState
+refresh-requires c κs = (c .before .refusal .ensures .1 (c .if1 .left), sound-view engine _ (enters c .is-sound))
 
 returns-2 : tie.Need-returns-2
-unfolding effect
+unfolding callOn soundState
 returns-2 c =
-    let s = c .before .before .before .before .before in
-    let e = entered (s .args .self) (s .args .stamp)
-    (sym (c .before .before .before .before .refusal .ensures .0) ∙ c .before .before .before .if1 .left) in
-    idles (c .before .before .refresh .result) (refreshed (viewOf (s .args .self)) (s .args .stamp))
-    (c .before .before .refresh .ensures) (c .if2 .taken)
-    ∙ accepted (s .args .self) (poll (s .args .stamp)) e (none-own (viewOf (s .args .self)) (s .args .stamp))
+    let a = c .before .before in
+    let s = a .before .before .before in
+    idles engine (s .args .self) (a .refresh .result) (s .args .stamp) (enters (a .before)) (a .refresh .ensures)
+    (picks-none _ _ (a .refresh .ensures) (c .if2 .taken))
 
 pick-requires : tie.Need-pick-requires
 pick-requires c κs = search needs
 
 left-for-requires : tie.Need-left-for-requires
-left-for-requires c κs =
-    let s = c .before .before .before .before .before .before in
-    let e = entered (s .args .self) (s .args .stamp) (sym (c .before .before .before .before .before .refusal .ensures .0)
-    ∙ c .before .before .before .before .if1 .left) in
-    given-of _ _ (c .before .before .before .refresh .ensures) (refreshed-given (s .args .self) (s .args .stamp) e)
+left-for-requires c κs = then-given (c .before .before .before)
 
 returns-3 : tie.Need-returns-3
-unfolding effect
+unfolding callOn soundState
 returns-3 c =
-    let s = c .before .before .before .before .before .before .before .before in
-    let e = entered (s .args .self) (s .args .stamp)
-    (sym (c .before .before .before .before .before .before .before .refusal .ensures .0)
-    ∙ c .before .before .before .before .before .before .if1 .left) in
-    let w = refreshed (viewOf (s .args .self)) (s .args .stamp) in
-    let h = refreshed-given (s .args .self) (s .args .stamp) e in
-    let a = c .before .before .before .before .before .refresh in
-    let p = c .before .before .pick .result in
-    let first = picks-at (a .result) w p (a .ensures) (c .before .before .before .if2 .left) (c .before .before .pick .ensures) in
-    let wait = left-at (a .result) w p _ (a .ensures) h (c .before .left-for .ensures) in
-    closes (a .result) w p _ (a .ensures) h first wait (c .if3 .taken)
-    ∙ accepted (s .args .self) (poll (s .args .stamp)) e (none-own (viewOf (s .args .self)) (s .args .stamp))
+    let b = c .before .before in
+    let a = b .before .before .before in
+    let s = a .before .before .before in
+    closes engine (s .args .self) (a .refresh .result) (s .args .stamp) (enters (a .before)) (a .refresh .ensures) _ (without _)
+    (picks b) _ (c .before .left-for .ensures) (c .if3 .taken)
 
 admit-requires : tie.Need-admit-requires
+unfolding soundState
 admit-requires c κs =
-    let s = c .before .before .before .before .before .before .before .before in
-    let e = entered (s .args .self) (s .args .stamp)
-    (sym (c .before .before .before .before .before .before .before .refusal .ensures .0)
-    ∙ c .before .before .before .before .before .before .if1 .left) in
-    let w = refreshed (viewOf (s .args .self)) (s .args .stamp) in
-    let h = refreshed-given (s .args .self) (s .args .stamp) e in
-    let a = c .before .before .before .before .before .refresh in
-    let p = c .before .before .pick .result in
-    let first = picks-at (a .result) w p (a .ensures) (c .before .before .before .if2 .left) (c .before .before .pick .ensures) in
-    let wait = left-at (a .result) w p _ (a .ensures) h (c .before .left-for .ensures) in (
-      given-of _ _ (a .ensures) h,
-      room-left (s .args .self) (a .result) (s .args .stamp) p _ e (a .ensures) h first wait
-          (c .if3 .left),
-    )
+    let b = c .before .before in
+    let a = b .before .before .before in
+    let s = a .before .before .before in
+    let room =
+    room-left engine (s .args .self) (a .refresh .result) (s .args .stamp) (enters (a .before)) (a .refresh .ensures) _
+    (without _) (picks b) _ (c .before .left-for .ensures) (c .if3 .left) in
+    (then-given a, omega (arith, room, ledger-len (a .refresh .result) (then a) (a .refresh .ensures)))
 
 returns-4 : tie.Need-returns-4
-unfolding effect
+unfolding callOn soundState
 returns-4 c =
-    let s = c .before .before .before .before .before .before .before .before .before in
-    let e = entered (s .args .self) (s .args .stamp)
-    (sym (c .before .before .before .before .before .before .before .before .refusal .ensures .0)
-    ∙ c .before .before .before .before .before .before .before .if1 .left) in
-    let w = refreshed (viewOf (s .args .self)) (s .args .stamp) in
-    let h = refreshed-given (s .args .self) (s .args .stamp) e in
-    let a = c .before .before .before .before .before .before .refresh in
-    let p = c .before .before .before .pick .result in
-    let first = picks-at (a .result) w p (a .ensures) (c .before .before .before .before .if2 .left)
-    (c .before .before .before .pick .ensures) in
-    let wait = left-at (a .result) w p _ (a .ensures) h (c .before .before .left-for .ensures) in
-    sends (a .result) (c .admit .result) w p _ (a .ensures) h first wait (c .before .if3 .left) (c .admit .ensures)
-    ∙ accepted (s .args .self) (poll (s .args .stamp)) e (none-own (viewOf (s .args .self)) (s .args .stamp))
+    let b = c .before .before .before in
+    let a = b .before .before .before in
+    let s = a .before .before .before in
+    sends engine (s .args .self) (a .refresh .result) (s .args .stamp) (enters (a .before)) (a .refresh .ensures) _ (without _)
+    (picks b) _ (c .before .before .left-for .ensures) (c .before .if3 .left) (c .admit .result) (c .admit .ensures)
 
 pub poll-spec : {M : Type 1} → statement M
 poll-spec =

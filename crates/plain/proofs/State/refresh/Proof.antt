@@ -29,7 +29,7 @@ add-counts c =
     let n = same-counts (s .args .self) (a .result) (s .args .stamp) (a .ensures) in
     let gone = ap (λ (x : Counts). x .expired) n in
     let sent = ap (λ (x : Counts). x .sent) n in
-    omega (arith, k .sum, k .most, ap (λ (x : Line). x .len) l, gone, sent)
+    omega (arith, k .sum, k .groups .most, ap (λ (x : Line). x .len) l, gone, sent)
 
 returns : tie.Need-returns
 returns c =

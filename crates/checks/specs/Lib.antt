@@ -1,0 +1,2 @@
+-- What both engines ask of plain numbers.
+pub mod Checks

@@ -1,0 +1,46 @@
+-- The queues without their expired packets, and these counted.
+use native.Mathlib.Omega.{arith}
+use borrow.Author.Needs.{needs}
+use Rattle.waiting.specs.Layout.{rows}
+use Rattle.waiting.proofs.Searching.{twenty}
+use Rattle.gate.proofs.Moving.{cleared-by}
+use Rattle.gate.proofs.Head.clear.Statement.{statement}
+use Rattle.gate.proofs.Head.clear.Tie as tie
+
+expire-all-requires : tie.Need-expire-all-requires
+expire-all-requires c κs = search needs
+
+add-counts : tie.Need-add-counts
+add-counts c =
+    let at-expire-all = c .before .before .before .before .before .before in
+    let s = at-expire-all .before .before .before .before .before in
+    omega (
+      arith,
+      s .pre .expired,
+      at-expire-all .expire-all .ensures .0,
+      twenty (rows (s .args .queues .now) (s .args .came
+          .now)) (s .pre .held .size),
+    )
+
+same-length : tie.Need-same-length
+same-length c = search needs
+
+same-length-2 : tie.Need-same-length-2
+same-length-2 c = search needs
+
+returns : tie.Need-returns
+returns c =
+    let at-expire-all = c .before .before .before .before .before .before in
+    let s = at-expire-all .before .before .before .before .before in
+    let e = at-expire-all .expire-all .ensures in
+    cleared-by (s .args .self) _ _ _ (e .0) (e .1)
+
+pub clear-spec : {M : Type 1} → statement M
+clear-spec =
+    tie.close
+    (tie.spec
+    expire-all-requires
+    add-counts
+    same-length
+    same-length-2
+    returns)

@@ -1,0 +1,55 @@
+-- The places passed are zero.
+use Prim.Native.Nat.{_-_}
+use lib.ListN.{length}
+use native.Mathlib.Omega.{arith}
+use borrow.Author.Needs.{needs}
+use Rattle.gate.proofs.Wiping.{Wiping, wiping, wipes-next, wiped}
+use Rattle.gate.proofs.making.wipe.Statement.{statement}
+use Rattle.gate.proofs.making.wipe.Tie as tie
+
+abbrev Inv-loop : tie.InvT-loop
+Inv-loop row₀ i₀ row i = Wiping row₀ i row
+
+abbrev μ-loop : tie.MeasureT-loop
+μ-loop row₀ i₀ row i = length row₀ - i
+
+loop-holds : tie.Need-loop-holds Inv-loop μ-loop
+loop-holds c = wiping (c .args .row .now)
+
+mul-row : tie.Need-mul-row Inv-loop μ-loop
+mul-row c = search needs
+
+slice-write-row : tie.Need-slice-write-row Inv-loop μ-loop
+slice-write-row c = search needs
+
+add-i : tie.Need-add-i Inv-loop μ-loop
+add-i c = search needs
+
+loop-less : tie.Need-loop-less Inv-loop μ-loop
+loop-less c = search needs
+
+loop-again : tie.Need-loop-again Inv-loop μ-loop
+loop-again c =
+    let a = c .before in wipes-next (a .before .args .row .now) (a .loop .i) (a .loop .row) (a .loop .inv) (omega arith)
+
+same-length : tie.Need-same-length Inv-loop μ-loop
+same-length c = c .before .loop .inv .long
+
+returns : tie.Need-returns Inv-loop μ-loop
+returns c =
+    let a = c .before in wiped (a .before .args .row .now) (a .loop .i) (a .loop .row) (a .loop .inv) (omega arith)
+
+pub wipe-spec : {M : Type 1} → statement M
+wipe-spec =
+    tie.close
+    (tie.spec
+    Inv-loop
+    μ-loop
+    loop-holds
+    mul-row
+    slice-write-row
+    add-i
+    loop-less
+    loop-again
+    same-length
+    returns)

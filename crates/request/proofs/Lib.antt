@@ -1,2 +1,0 @@
--- Laws of what a request decides on.
-pub mod Polling

@@ -1,0 +1,10 @@
+pub mod Places
+pub mod Judging
+pub mod Keeping
+pub mod Wholes
+pub mod Judged
+pub mod Searching
+pub mod Meaning
+pub mod Tidying
+pub mod Joining
+pub mod Worked
