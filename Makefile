@@ -1,6 +1,6 @@
 # Presscurlew: what can be run. Everything that is made lies below target/.
 
-ARCHIVES := $(patsubst %,target/staticlib/lib%.a,cstack floats host bursts loops samples plainhost)
+ARCHIVES := $(patsubst %,target/staticlib/lib%.a,cstack floats host calllog plainhost)
 PROVED := crates.txt $(shell find crates -name '*.rt' -o -name '*.antt')
 
 help:
@@ -110,7 +110,7 @@ bench-replay: $(ARCHIVES) target/bin/replay
 PREFIX ?= /usr/local
 PLACE = $(if $(DESTDIR),$(DESTDIR)/)$(PREFIX)
 
-lib: $(patsubst %,target/staticlib/lib%.a,cstack floats host bursts plainhost)
+lib: $(ARCHIVES)
 	@package/stage target/package
 	@echo 'target/package has include, lib and share; make install PREFIX=.. puts them where you want them'
 

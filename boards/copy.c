@@ -1,7 +1,7 @@
 /*
- * Copying by words of 4 bytes, for a Cortex-M whose C library goes byte by byte, as Debian's picolibc does. A call
- * copies the state several times, so that this is most of its time there. Compile with -O2 -fno-builtin
- * -fno-tree-loop-distribute-patterns, or a compiler makes calls of memcpy out of these loops, and link it before the
+ * Copying by words of 4 bytes, for a Cortex-M whose C library goes byte by byte, as Debian's picolibc does. The
+ * plain engine's calls copy their state several times, so that this is most of their time there. Compile with -O2
+ * -fno-builtin -fno-tree-loop-distribute-patterns, or a compiler makes calls of memcpy out of these loops, and link it before the
  * library. COPY=boards/copy.c boards/figures BOARD measures with it.
  */
 #include <stddef.h>

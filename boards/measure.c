@@ -3,7 +3,7 @@
  * instructions were executed; and with the stack below it painted before and looked at after.
  *
  * Writes a line `call NAME STACK` for each call: the bytes of stack that were written below the caller's frame. In that
- * frame the caller has what it hands over by value and what it gets.
+ * frame the caller has what it hands over, a gate's pointers or a state by value, and what it gets.
  */
 #include "presscurlew_plain.h"
 
@@ -43,6 +43,7 @@ __attribute__((noinline)) void mark(void) { __asm volatile("" ::: "memory"); }
 #define presscurlew_offer(...) MEASURED("offer", presscurlew_offer(__VA_ARGS__))
 #define presscurlew_poll(...) MEASURED("poll", presscurlew_poll(__VA_ARGS__))
 #define presscurlew_burst(...) MEASURED("burst", presscurlew_burst(__VA_ARGS__))
+#define presscurlew_is_sound(...) MEASURED("is_sound", presscurlew_is_sound(__VA_ARGS__))
 #define presscurlew_write_make(...) MEASURED("write", presscurlew_write_make(__VA_ARGS__))
 #define presscurlew_write_sample_words(...) MEASURED("write_sample_words", presscurlew_write_sample_words(__VA_ARGS__))
 #define presscurlew_write_sample_count(...) MEASURED("write", presscurlew_write_sample_count(__VA_ARGS__))
@@ -60,4 +61,36 @@ __attribute__((noinline)) void mark(void) { __asm volatile("" ::: "memory"); }
 #define presscurlew_plain_poll(...) MEASURED("plain", presscurlew_plain_poll(__VA_ARGS__))
 #define presscurlew_plain_burst(...) MEASURED("plain", presscurlew_plain_burst(__VA_ARGS__))
 
+#define main stress_main
 #include "stress.c"
+#undef main
+
+/*
+ * A burst of 20, five of each priority: on a fresh gate; on full queues, where each displaces one; where all of these
+ * have expired; and on full queues that are as full of admissions as the profile lets them get.
+ */
+static void play_twenty(uint32_t profile) {
+    static const uint32_t stamps[] = {0, 10, 1000010, 2000020};
+    static uint8_t twenty[20 * PRESSCURLEW_RECORD_BYTES], each[20];
+    presscurlew_levels list = draw_list(1);
+    presscurlew_reply r = (presscurlew_make)(&gate, profile, PRESSCURLEW_DROP_OLDEST, &list, 0);
+
+    add(r.kind);
+    for (uint32_t turn = 0; turn < 4; turn++) {
+        for (uint32_t i = 0; i < 20; i++)
+            presscurlew_put_offer(twenty + i * PRESSCURLEW_RECORD_BYTES, i, i % 4, 400, turn < 2 ? 500000 : 60000000,
+                                  stamps[turn]);
+        uint32_t number = MEASURED("burst_of_20", (presscurlew_burst)(&gate, twenty, sizeof twenty, each, sizeof each));
+        add(number);
+        for (uint32_t i = 0, now = stamps[turn]; turn == 2 && i < 40; i++, now += 25000)
+            add((presscurlew_poll)(&gate, now).kind);
+    }
+}
+
+int main(void) {
+    int ended = stress_main();
+
+    for (uint32_t profile = 1; profile <= 5; profile++)
+        play_twenty(profile);
+    return ended;
+}

@@ -1,7 +1,7 @@
 /*
- * The calls of presscurlew.h and presscurlew_plain.h over the entries that boards/neutral gives the proved modules. The
- * C compiler of the board compiles it, so that structs go by value as they do on that board. It has no branch and no
- * arithmetic: a call hands on pointers to what it was given.
+ * The calls that presscurlew.h and presscurlew_plain.h declare, over the entries that boards/neutral gives the proved
+ * modules. The C compiler of the board compiles it, so that structs go by value as they do on that board. It has no
+ * branch and no arithmetic: a call hands on pointers, and pointers to what it was given.
  *
  * An entry takes a pointer for each struct and each slice, writes its answer to the first one, and keeps nothing.
  */
@@ -43,7 +43,8 @@ AT(wait_answer, wait, 4);
 SIZE(float_answer, 24);
 AT(float_answer, smoothed, 8);
 AT(float_answer, duty, 16);
-_Static_assert(_Alignof(presscurlew_turn) == 8 && _Alignof(presscurlew_plain_turn) == 8, "turns are aligned to 8");
+_Static_assert(_Alignof(presscurlew_gate) == 8 && _Alignof(presscurlew_reply) == 8, "numbers of 64 bits align to 8");
+_Static_assert(_Alignof(presscurlew_plain_turn) == 8, "turns are aligned to 8");
 _Static_assert(_Alignof(presscurlew_float_answer) == 8, "the modules align doubles to 8");
 _Static_assert(sizeof(slice) == 16 && _Alignof(slice) == 8 && offsetof(slice, length) == 8, "slice");
 _Static_assert(sizeof(void *) <= 8 && sizeof(size_t) == sizeof(void *), "an address fits its place in a slice");
@@ -77,63 +78,71 @@ uint32_t presscurlew_plain_layout(void) {
 
 /* The gate. */
 
-void presscurlew_raw_make(presscurlew_turn *out, uint32_t profile, uint32_t when_full, presscurlew_levels *list,
-                          uint32_t stamp);
-void presscurlew_raw_sample_words(presscurlew_turn *out, presscurlew_state *state, uint32_t probes, const slice *words,
-                                  uint32_t stamp);
-void presscurlew_raw_sample_count(presscurlew_turn *out, presscurlew_state *state, uint32_t busy, uint32_t probes,
-                                  uint32_t stamp);
-void presscurlew_raw_offer(presscurlew_turn *out, presscurlew_state *state, uint32_t id, uint32_t priority,
-                           uint32_t ontime, uint32_t lifetime, uint32_t stamp);
-void presscurlew_raw_poll(presscurlew_turn *out, presscurlew_state *state, uint32_t stamp);
-void presscurlew_raw_burst(presscurlew_burst_turn *out, presscurlew_state *state, const slice *records,
-                           const slice *answers);
+void presscurlew_raw_gate_make(presscurlew_reply *out, uint64_t *wide, uint32_t *narrow, uint32_t *queues,
+                               uint64_t *arrivals, uint32_t *air, uint32_t *loads, uint32_t *thresholds,
+                               uint32_t *waits, uint32_t profile, uint32_t when_full, uint32_t count,
+                               uint32_t base_wait, const uint32_t *list_thresholds, const uint32_t *list_waits,
+                               uint32_t stamp);
+void presscurlew_raw_gate_call(presscurlew_reply *out, uint64_t *wide, uint32_t *narrow, uint32_t *queues,
+                               uint64_t *arrivals, uint32_t *air, uint32_t *loads, const uint32_t *thresholds,
+                               const uint32_t *waits, uint32_t kind, uint32_t a, uint32_t b, uint32_t c, uint32_t d,
+                               uint32_t stamp);
+void presscurlew_raw_gate_sound(uint32_t *out, const uint64_t *wide, const uint32_t *narrow, const uint32_t *queues,
+                                const uint64_t *arrivals, const uint32_t *air, const uint32_t *loads,
+                                const uint32_t *thresholds, const uint32_t *waits);
+void presscurlew_raw_busy(uint32_t *out, uint32_t probes, const slice *words);
+void presscurlew_raw_gate_burst(uint32_t *out, uint64_t *wide, uint32_t *narrow, uint32_t *queues, uint64_t *arrivals,
+                                uint32_t *air, uint32_t *loads, const uint32_t *thresholds, const uint32_t *waits,
+                                const slice *records, const slice *answers);
 
-presscurlew_turn presscurlew_make(uint32_t profile, uint32_t when_full, presscurlew_levels list, uint32_t stamp) {
-    presscurlew_turn turn;
+presscurlew_reply presscurlew_gate_make(uint64_t *wide, uint32_t *narrow, uint32_t *queues, uint64_t *arrivals,
+                                        uint32_t *air, uint32_t *loads, uint32_t *thresholds, uint32_t *waits,
+                                        uint32_t profile, uint32_t when_full, uint32_t count, uint32_t base_wait,
+                                        const uint32_t *list_thresholds, const uint32_t *list_waits, uint32_t stamp) {
+    presscurlew_reply reply;
 
-    presscurlew_raw_make(&turn, profile, when_full, &list, stamp);
-    return turn;
+    presscurlew_raw_gate_make(&reply, wide, narrow, queues, arrivals, air, loads, thresholds, waits, profile, when_full,
+                              count, base_wait, list_thresholds, list_waits, stamp);
+    return reply;
 }
 
-presscurlew_turn presscurlew_sample_words(presscurlew_state state, uint32_t probes, const uint64_t *words, size_t count,
-                                          uint32_t stamp) {
-    presscurlew_turn turn;
+presscurlew_reply presscurlew_gate_call(uint64_t *wide, uint32_t *narrow, uint32_t *queues, uint64_t *arrivals,
+                                        uint32_t *air, uint32_t *loads, const uint32_t *thresholds,
+                                        const uint32_t *waits, uint32_t kind, uint32_t a, uint32_t b, uint32_t c,
+                                        uint32_t d, uint32_t stamp) {
+    presscurlew_reply reply;
+
+    presscurlew_raw_gate_call(&reply, wide, narrow, queues, arrivals, air, loads, thresholds, waits, kind, a, b, c, d,
+                              stamp);
+    return reply;
+}
+
+uint32_t presscurlew_gate_sound(const uint64_t *wide, const uint32_t *narrow, const uint32_t *queues,
+                                const uint64_t *arrivals, const uint32_t *air, const uint32_t *loads,
+                                const uint32_t *thresholds, const uint32_t *waits) {
+    uint32_t number;
+
+    presscurlew_raw_gate_sound(&number, wide, narrow, queues, arrivals, air, loads, thresholds, waits);
+    return number;
+}
+
+uint32_t presscurlew_busy(uint32_t probes, const uint64_t *words, size_t count) {
+    uint32_t number;
     slice sample = slice_of(words, count);
 
-    presscurlew_raw_sample_words(&turn, &state, probes, &sample, stamp);
-    return turn;
+    presscurlew_raw_busy(&number, probes, &sample);
+    return number;
 }
 
-presscurlew_turn presscurlew_sample_count(presscurlew_state state, uint32_t busy, uint32_t probes, uint32_t stamp) {
-    presscurlew_turn turn;
-
-    presscurlew_raw_sample_count(&turn, &state, busy, probes, stamp);
-    return turn;
-}
-
-presscurlew_turn presscurlew_offer(presscurlew_state state, uint32_t id, uint32_t priority, uint32_t ontime,
-                                   uint32_t lifetime, uint32_t stamp) {
-    presscurlew_turn turn;
-
-    presscurlew_raw_offer(&turn, &state, id, priority, ontime, lifetime, stamp);
-    return turn;
-}
-
-presscurlew_turn presscurlew_poll(presscurlew_state state, uint32_t stamp) {
-    presscurlew_turn turn;
-
-    presscurlew_raw_poll(&turn, &state, stamp);
-    return turn;
-}
-
-presscurlew_burst_turn presscurlew_burst(presscurlew_state state, const uint8_t *records, size_t bytes,
-                                         uint8_t *answers, size_t room) {
-    presscurlew_burst_turn turn;
+uint32_t presscurlew_gate_burst(uint64_t *wide, uint32_t *narrow, uint32_t *queues, uint64_t *arrivals, uint32_t *air,
+                                uint32_t *loads, const uint32_t *thresholds, const uint32_t *waits,
+                                const uint8_t *records, size_t bytes, uint8_t *answers, size_t room) {
+    uint32_t number;
     slice offers = slice_of(records, bytes), places = slice_of(answers, room);
 
-    presscurlew_raw_burst(&turn, &state, &offers, &places);
-    return turn;
+    presscurlew_raw_gate_burst(&number, wide, narrow, queues, arrivals, air, loads, thresholds, waits, &offers,
+                               &places);
+    return number;
 }
 
 /* The log. */
@@ -242,7 +251,7 @@ presscurlew_float_answer presscurlew_float_update(double duty, double smoothed, 
 /* The plain engine. */
 
 void presscurlew_raw_plain_make(presscurlew_plain_turn *out, uint32_t profile, uint32_t when_full,
-                                presscurlew_levels *list, uint32_t stamp);
+                                presscurlew_plain_levels *list, uint32_t stamp);
 void presscurlew_raw_plain_sample_words(presscurlew_plain_turn *out, presscurlew_plain_state *state, uint32_t probes,
                                         const slice *words, uint32_t stamp);
 void presscurlew_raw_plain_sample_count(presscurlew_plain_turn *out, presscurlew_plain_state *state, uint32_t busy,
@@ -253,7 +262,7 @@ void presscurlew_raw_plain_poll(presscurlew_plain_turn *out, presscurlew_plain_s
 void presscurlew_raw_plain_burst(presscurlew_plain_burst_turn *out, presscurlew_plain_state *state,
                                  const slice *records, const slice *answers);
 
-presscurlew_plain_turn presscurlew_plain_make(uint32_t profile, uint32_t when_full, presscurlew_levels list,
+presscurlew_plain_turn presscurlew_plain_make(uint32_t profile, uint32_t when_full, presscurlew_plain_levels list,
                                               uint32_t stamp) {
     presscurlew_plain_turn turn;
 

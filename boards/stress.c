@@ -4,8 +4,9 @@
  *
  *   stress                  plays ROUNDS rounds and writes the sum after each, then what was seen
  *
- * It ends with an error if a refusal number was never seen, or a kind of answer, a ledger of 30 admissions or level 8.
- * Arguments are computed one by one, as C does not say in which order a call's own are.
+ * It ends with an error if a refusal number was never seen, or a kind of answer, a ledger of 30 admissions or level 8;
+ * or if a refused call changed the gate, or a gate is refused as unsound and says otherwise. Arguments are computed one
+ * by one, as C does not say in which order a call's own are.
  */
 #include <inttypes.h>
 #include <stdio.h>
@@ -20,7 +21,7 @@
 enum { STEPS = 1250, RECORDS = 6 };
 
 static uint64_t seed = 88172645463325252u, sum = 1, calls;
-static uint32_t kinds[6], refusals[17], longest_ledger, highest_level;
+static uint32_t kinds[6], refusals[17], longest_ledger, highest_level, mistakes;
 
 static uint64_t any(void) {
     seed ^= seed << 13;
@@ -46,64 +47,77 @@ static void add_packet(const presscurlew_packet *p) {
     add(p->arrival);
 }
 
-static void add_ledger(const presscurlew_ledger *l) {
-    add(l->len);
-    for (int i = 0; i < 40; i++)
-        add(l->slots[i]);
-    if (l->len <= 40 && l->len > longest_ledger)
-        longest_ledger = (uint32_t)l->len;
+static void add_words(const uint32_t *words, uint32_t count) {
+    for (uint32_t i = 0; i < count; i++)
+        add(words[i]);
 }
 
-/* Profile 5's list and loads, and the level, which in the other profiles stays below 5. */
-static void add_listing(const presscurlew_levels *l, const presscurlew_loads *s, uint32_t level) {
-    add(l->len);
-    add(l->wait);
-    for (int i = 0; i < 8; i++)
-        add((uint64_t)l->above[i] << 32 | l->waits[i]);
-    add(s->len);
-    for (int i = 0; i < 50; i++)
-        add(s->slots[i]);
+/* How full a ledger got, and how high a level, which in all profiles but 5 stays below 5. */
+static void note_most(uint64_t admissions, uint32_t level) {
+    if (admissions <= 40 && admissions > longest_ledger)
+        longest_ledger = (uint32_t)admissions;
     if (level <= 8 && level > highest_level)
         highest_level = level;
 }
 
-static void add_rest(const presscurlew_clock *c, const presscurlew_last *a, const presscurlew_counts *n,
-                     const presscurlew_tuning *t) {
-    add(c->time);
-    add(c->stamp);
-    add(a->at);
-    add((uint64_t)a->ontime << 32 | a->admitted);
-    add(n->accepted);
-    add(n->sent);
-    add(n->expired);
-    add(n->displaced);
-    add((uint64_t)t->level << 32 | t->duty);
-    add((uint64_t)t->smoothed << 32 | t->kept);
-    add((uint64_t)t->pairing << 32 | t->latest);
-}
-
-static void add_state(const presscurlew_state *s) {
+static void add_gate(const presscurlew_gate *g) {
     for (int q = 0; q < 4; q++) {
-        add(s->queues[q].len);
-        for (int i = 0; i < 5; i++)
-            add_packet(&s->queues[q].slots[i]);
+        add(g->queues[q].len);
+        for (int i = 0; i < 5; i++) {
+            add(g->queues[q].packets[i].id);
+            add((uint64_t)g->queues[q].packets[i].ontime << 32 | g->queues[q].packets[i].lifetime);
+            add(g->arrivals[q][i]);
+        }
     }
-    add_ledger(&s->rows.ledger);
-    add_listing(&s->levels, &s->rows.loads, s->tuning.level);
-    add_rest(&s->clock, &s->last, &s->counts, &s->tuning);
-    add((uint64_t)s->profile << 32 | s->oldway);
-    add(s->live);
+    add(g->admissions);
+    add_words(g->air, 40);
+    add((uint64_t)g->level_count << 32 | g->base_wait);
+    add_words(g->thresholds, 8);
+    add_words(g->waits, 8);
+    add(g->load_count);
+    add_words(g->loads, 50);
+    add(g->time);
+    add(g->stamp);
+    add(g->last_at);
+    add((uint64_t)g->last_ontime << 32 | g->admitted);
+    add(g->accepted);
+    add(g->sent);
+    add(g->expired);
+    add(g->displaced);
+    add((uint64_t)g->level << 32 | g->duty);
+    add((uint64_t)g->smoothed << 32 | g->kept);
+    add((uint64_t)g->pairing << 32 | g->latest);
+    add((uint64_t)g->profile << 32 | g->when_full);
+    add(g->live);
+    note_most(g->admissions, g->level);
 }
 
 static void add_plain_state(const presscurlew_plain_state *s) {
     add(s->line.len);
     for (int i = 0; i < 20; i++)
         add_packet(&s->line.packets[i]);
-    add_ledger(&s->ledger);
-    add_listing(&s->levels, &s->loads, s->tuning.level);
-    add_rest(&s->clock, &s->last, &s->counts, &s->tuning);
+    add(s->ledger.len);
+    add_words(s->ledger.slots, 40);
+    add(s->levels.len);
+    add(s->levels.wait);
+    add_words(s->levels.above, 8);
+    add_words(s->levels.waits, 8);
+    add(s->loads.len);
+    add_words(s->loads.slots, 50);
+    add(s->clock.time);
+    add(s->clock.stamp);
+    add(s->last.at);
+    add((uint64_t)s->last.ontime << 32 | s->last.admitted);
+    add(s->counts.accepted);
+    add(s->counts.sent);
+    add(s->counts.expired);
+    add(s->counts.displaced);
+    add((uint64_t)s->tuning.level << 32 | s->tuning.duty);
+    add((uint64_t)s->tuning.smoothed << 32 | s->tuning.kept);
+    add((uint64_t)s->tuning.pairing << 32 | s->tuning.latest);
     add((uint64_t)s->profile << 32 | s->oldway);
     add(s->live);
+    note_most(s->ledger.len, s->tuning.level);
 }
 
 static void add_refusal(uint64_t number) {
@@ -121,28 +135,28 @@ static void add_reply(const presscurlew_reply *r) {
 }
 
 /* What runs: both engines, the radio's clock, and how the calls of this stretch are drawn. */
-static presscurlew_state gate;
+static presscurlew_gate gate, given;
 static presscurlew_plain_state plain;
 static uint32_t now, closed_for, most, longest, busy_most, slow, at_edges;
-
-static void took(const presscurlew_turn *t) {
-    add_state(&t->state);
-    add_reply(&t->reply);
-}
 
 static void plain_took(const presscurlew_plain_turn *t) {
     add_plain_state(&t->state);
     add_reply(&t->reply);
 }
 
-/* Keeps what one call on both engines gave. Only a call that was not refused moves the clock. */
-static void keep(const presscurlew_turn *t, const presscurlew_plain_turn *u, uint32_t stamp) {
-    took(t);
+/* Keeps the gate as the next call is given it, to find it again where the call is refused. A gate has no padding. */
+static void lend(void) { given = gate; }
+
+/* Keeps what one call on both engines gave. Only a call that was not refused changes the gate, and moves the clock. */
+static void keep(const presscurlew_reply *r, const presscurlew_plain_turn *u, uint32_t stamp) {
+    add_gate(&gate);
+    add_reply(r);
     plain_took(u);
-    if (t->reply.kind != PRESSCURLEW_REFUSED)
+    if (r->kind != PRESSCURLEW_REFUSED)
         now = stamp;
-    closed_for = t->reply.kind == PRESSCURLEW_CLOSED ? (uint32_t)t->reply.number : 0;
-    gate = t->state;
+    else if (memcmp(&given, &gate, sizeof gate) != 0)
+        mistakes++;
+    closed_for = r->kind == PRESSCURLEW_CLOSED ? (uint32_t)r->number : 0;
     plain = u->state;
 }
 
@@ -152,14 +166,14 @@ static void keep(const presscurlew_turn *t, const presscurlew_plain_turn *u, uin
  */
 static presscurlew_levels draw_list(uint32_t good) {
     static const uint32_t waits[] = {40000, 40001, 999999, 1000000};
-    presscurlew_levels list = presscurlew_no_list();
+    presscurlew_levels list = {0, 0, {0}, {0}};
     uint32_t many = 1 + below(8), above = 0, place = below(many), way = below(5);
 
-    list.len = many;
-    list.wait = one_in(2) ? waits[below(4)] : 40000 + below(960001);
+    list.count = many;
+    list.base_wait = one_in(2) ? waits[below(4)] : 40000 + below(960001);
     for (uint32_t i = 0; i < 8; i++) {
         above += 1 + below(one_in(3) ? 2 : 125000);
-        list.above[i] = above;
+        list.thresholds[i] = above;
         list.waits[i] = one_in(2) ? waits[below(4)] : 40000 + below(960001);
         if (i >= many && one_in(2))
             list.waits[i] = (uint32_t)any();
@@ -167,45 +181,68 @@ static presscurlew_levels draw_list(uint32_t good) {
     if (good)
         return list;
     if (way == 0)
-        list.len = one_in(2) ? 0 : UINT64_C(9) << below(33);
+        list.count = one_in(2) ? 0 : UINT32_C(9) << below(29);
     if (way == 1)
-        list.wait = one_in(2) ? 39999 : 1000001;
+        list.base_wait = one_in(2) ? 39999 : 1000001;
     if (way == 2)
         list.waits[place] = one_in(2) ? 39999 : 1000001;
     if (way == 3)
-        list.above[place] = place > 0 ? list.above[place - 1] : 0;
+        list.thresholds[place] = place > 0 ? list.thresholds[place - 1] : 0;
     if (way == 4)
-        list.above[many - 1] = 1000001;
+        list.thresholds[many - 1] = 1000001;
     return list;
 }
 
-static void make_with(uint32_t profile, uint32_t when_full, presscurlew_levels list) {
-    uint32_t stamp = (uint32_t)any();
-    presscurlew_turn t = presscurlew_make(profile, when_full, list, stamp);
-    presscurlew_plain_turn u = presscurlew_plain_make(profile, when_full, list, stamp);
+/* The same list for the plain engine. Its length has 64 bits: one that is too long may be so in the upper ones. */
+static presscurlew_plain_levels plain_list(const presscurlew_levels *list) {
+    presscurlew_plain_levels same = presscurlew_plain_no_list();
 
-    keep(&t, &u, stamp);
+    same.len = list->count > 8 ? (uint64_t)list->count << below(33) : list->count;
+    same.wait = list->base_wait;
+    memcpy(same.above, list->thresholds, sizeof same.above);
+    memcpy(same.waits, list->waits, sizeof same.waits);
+    return same;
 }
 
-/* Only profile 5 looks at the list. */
-static void make(uint32_t profile, uint32_t when_full) { make_with(profile, when_full, draw_list(1)); }
+static int is_zero(const presscurlew_gate *g) {
+    static presscurlew_gate zero;
+
+    return memcmp(g, &zero, sizeof zero) == 0;
+}
+
+/* Makes both engines. Only profile 5 looks at a list. A refused make leaves the all-zero gate, whatever was there. */
+static void make_with(uint32_t profile, uint32_t when_full, const presscurlew_levels *list) {
+    uint32_t stamp = (uint32_t)any();
+    presscurlew_plain_levels same = list == NULL ? presscurlew_plain_no_list() : plain_list(list);
+    presscurlew_reply r = presscurlew_make(&gate, profile, when_full, list, stamp);
+    presscurlew_plain_turn u = presscurlew_plain_make(profile, when_full, same, stamp);
+
+    mistakes += is_zero(&gate) != (r.kind == PRESSCURLEW_REFUSED);
+    lend(); /* a refused make is the one that writes */
+    keep(&r, &u, stamp);
+}
+
+static void make(uint32_t profile, uint32_t when_full) {
+    presscurlew_levels list = draw_list(1);
+
+    make_with(profile, when_full, profile == 5 || one_in(2) ? &list : NULL);
+}
 
 /*
  * How far it is to where something happens, or 1 us before: a packet expires, an admission ages, or the clock ends; or
  * nothing, but 1 us passes.
  */
 static uint64_t to_next_edge(void) {
-    const presscurlew_queue *q = &gate.queues[below(4)];
-    const presscurlew_ledger *l = &gate.rows.ledger;
-    uint64_t at = gate.clock.time;
+    uint32_t k = below(4), len = gate.queues[k].len;
+    uint64_t at = gate.time;
 
     switch (below(4)) {
     case 0:
-        if (q->len > 0 && q->len <= 5)
-            at = q->slots[0].arrival + q->slots[below((uint32_t)q->len)].lifetime;
+        if (len > 0 && len <= 5)
+            at = gate.arrivals[k][0] + gate.queues[k].packets[below(len)].lifetime;
         break;
     case 1:
-        at = l->len > 0 ? gate.last.at - l->slots[0] / 4096 + 1000000 : at;
+        at = gate.admissions > 0 ? gate.last_at - gate.air[0] / 4096 + 1000000 : at;
         break;
     case 2:
         at = UINT64_C(1000000000000000) + 1;
@@ -213,7 +250,7 @@ static uint64_t to_next_edge(void) {
     default:
         at += 1;
     }
-    return at - gate.clock.time - below(2);
+    return at - gate.time - below(2);
 }
 
 static uint32_t next_stamp(void) {
@@ -232,8 +269,8 @@ static uint32_t next_stamp(void) {
 static uint32_t ledger_sum(void) {
     uint32_t on_air = 0;
 
-    for (uint64_t i = 0; i < gate.rows.ledger.len && i < 40; i++)
-        on_air += gate.rows.ledger.slots[i] % 4096;
+    for (uint32_t i = 0; i < gate.admissions && i < 40; i++)
+        on_air += gate.air[i] % 4096;
     return on_air;
 }
 
@@ -255,18 +292,20 @@ static uint32_t draw_lifetime(void) {
 static void offer(void) {
     uint32_t id = (uint32_t)any(), priority = below(one_in(50) ? 6 : 4), stamp = next_stamp();
     uint32_t ontime = draw_ontime(), lifetime = draw_lifetime();
-    presscurlew_turn t = presscurlew_offer(gate, id, priority, ontime, lifetime, stamp);
-    presscurlew_plain_turn u = presscurlew_plain_offer(plain, id, priority, ontime, lifetime, stamp);
 
-    keep(&t, &u, stamp);
+    lend();
+    presscurlew_reply r = presscurlew_offer(&gate, id, priority, ontime, lifetime, stamp);
+    presscurlew_plain_turn u = presscurlew_plain_offer(plain, id, priority, ontime, lifetime, stamp);
+    keep(&r, &u, stamp);
 }
 
 static void poll(void) {
     uint32_t stamp = next_stamp();
-    presscurlew_turn t = presscurlew_poll(gate, stamp);
-    presscurlew_plain_turn u = presscurlew_plain_poll(plain, stamp);
 
-    keep(&t, &u, stamp);
+    lend();
+    presscurlew_reply r = presscurlew_poll(&gate, stamp);
+    presscurlew_plain_turn u = presscurlew_plain_poll(plain, stamp);
+    keep(&r, &u, stamp);
 }
 
 static void sample_count(void) {
@@ -278,23 +317,24 @@ static void sample_count(void) {
         busy = probes * shares[below(8)] / 100;
         busy += below(2);
     }
-    presscurlew_turn t = presscurlew_sample_count(gate, busy, probes, stamp);
+    lend();
+    presscurlew_reply r = presscurlew_sample_count(&gate, busy, probes, stamp);
     presscurlew_plain_turn u = presscurlew_plain_sample_count(plain, busy, probes, stamp);
-
-    keep(&t, &u, stamp);
+    keep(&r, &u, stamp);
 }
 
 /* Profile 5: some samples of one load, of a threshold or beside it, so that the last ten or fifty are of it. */
 static void steady_samples(void) {
     uint32_t place = below(8), many = one_in(4) ? 51 : 1 + below(12);
-    uint32_t load = gate.levels.above[place] + below(3), busy = one_in(2) ? load / 80 : 12500 * below(2);
+    uint32_t load = gate.thresholds[place] + below(3), busy = one_in(2) ? load / 80 : 12500 * below(2);
 
     for (uint32_t i = 0; i < many; i++) {
         uint32_t stamp = next_stamp();
-        presscurlew_turn t = presscurlew_sample_count(gate, busy, 12500, stamp);
-        presscurlew_plain_turn u = presscurlew_plain_sample_count(plain, busy, 12500, stamp);
 
-        keep(&t, &u, stamp);
+        lend();
+        presscurlew_reply r = presscurlew_sample_count(&gate, busy, 12500, stamp);
+        presscurlew_plain_turn u = presscurlew_plain_sample_count(plain, busy, 12500, stamp);
+        keep(&r, &u, stamp);
     }
 }
 
@@ -319,10 +359,11 @@ static uint32_t draw_words(uint32_t *count) {
 
 static void sample_words(void) {
     uint32_t count, probes = draw_words(&count), stamp = next_stamp();
-    presscurlew_turn t = presscurlew_sample_words(gate, probes, count == 0 ? NULL : words, count, stamp);
-    presscurlew_plain_turn u = presscurlew_plain_sample_words(plain, probes, count == 0 ? NULL : words, count, stamp);
 
-    keep(&t, &u, stamp);
+    lend();
+    presscurlew_reply r = presscurlew_sample_words(&gate, probes, count == 0 ? NULL : words, count, stamp);
+    presscurlew_plain_turn u = presscurlew_plain_sample_words(plain, probes, count == 0 ? NULL : words, count, stamp);
+    keep(&r, &u, stamp);
 }
 
 static uint8_t records[RECORDS * PRESSCURLEW_RECORD_BYTES + 1], answers[RECORDS + 2];
@@ -354,16 +395,17 @@ static void burst(void) {
         draw_record(records + i * PRESSCURLEW_RECORD_BYTES, stamp);
     }
     memset(answers, 0xEE, sizeof answers);
-    presscurlew_burst_turn t = presscurlew_burst(gate, bytes == 0 ? NULL : records, bytes, answers, room);
-    add_state(&t.state);
-    add_answers(t.number, many);
+    lend();
+    uint32_t number = presscurlew_burst(&gate, bytes == 0 ? NULL : records, bytes, answers, room);
+    add_gate(&gate);
+    add_answers(number, many);
+    mistakes += number != 0 && memcmp(&given, &gate, sizeof gate) != 0;
     memset(answers, 0xEE, sizeof answers);
     presscurlew_plain_burst_turn u = presscurlew_plain_burst(plain, bytes == 0 ? NULL : records, bytes, answers, room);
     add_plain_state(&u.state);
     add_answers(u.number, many);
-    gate = t.state;
     plain = u.state;
-    now = gate.live == 1 ? gate.clock.stamp : now;
+    now = gate.live == 1 ? gate.stamp : now;
     closed_for = 0;
 }
 
@@ -479,13 +521,13 @@ static void float_updates(void) {
 /* Moves all times of a sound state on by d: a gate near the end of its clock. The ledger's go by the last admission. */
 static void grow_old(uint64_t d) {
     for (int q = 0; q < 4; q++)
-        for (uint64_t i = 0; i < gate.queues[q].len; i++)
-            gate.queues[q].slots[i].arrival += d;
+        for (uint32_t i = 0; i < gate.queues[q].len; i++)
+            gate.arrivals[q][i] += d;
     for (uint64_t i = 0; i < plain.line.len; i++)
         plain.line.packets[i].arrival += d;
-    gate.last.at += gate.last.admitted != 0 ? d : 0;
+    gate.last_at += gate.admitted != 0 ? d : 0;
     plain.last.at += plain.last.admitted != 0 ? d : 0;
-    gate.clock.time += d;
+    gate.time += d;
     plain.clock.time += d;
 }
 
@@ -506,12 +548,12 @@ static void spoil_any(uint8_t *state, uint32_t bytes) {
 static uint32_t word(uint32_t age, uint32_t ontime) { return age * 4096 + ontime; }
 
 /* The ledger at the edge of what is sound: two admissions, the sum of the on-times, or the age of the oldest. */
-static void spoil_ledger(presscurlew_ledger *ledger, uint32_t way, uint32_t place, uint32_t more) {
-    uint32_t *words = ledger->slots, ago = (uint32_t)(gate.clock.time - gate.last.at);
+static void spoil_ledger(uint32_t way, uint32_t place, uint32_t more) {
+    uint32_t *words = gate.air, ago = (uint32_t)(gate.time - gate.last_at);
 
     if (way == 0)
         words[place] = word(words[place + 1] / 4096 + 25000 - more, words[place] % 4096);
-    for (uint32_t i = 0, lacking = 30000 + more - ledger_sum(); way == 1 && i < ledger->len - 1; i++) {
+    for (uint32_t i = 0, lacking = 30000 + more - ledger_sum(); way == 1 && i < gate.admissions - 1; i++) {
         uint32_t room = most > words[i] % 4096 ? most - words[i] % 4096 : 0;
         uint32_t longer = room < lacking ? room : lacking;
         words[i] += longer;
@@ -519,46 +561,72 @@ static void spoil_ledger(presscurlew_ledger *ledger, uint32_t way, uint32_t plac
     }
     if (way == 2)
         words[0] = word(1000000 - more - ago, words[0] % 4096);
+    memcpy(plain.ledger.slots, words, sizeof plain.ledger.slots);
 }
 
-/* The list or the loads at the edge of what is sound, in any profile. */
-static void spoil_listing(presscurlew_levels *list, presscurlew_loads *loads, uint32_t way, uint32_t place) {
-    if (way == 0)
-        list->len = place % 10;
+/* The list or the loads at the edge of what is sound, in any profile: their rows, and then their lengths too. */
+static void spoil_rows(uint32_t *thresholds, uint32_t *waits, uint32_t *loads, uint32_t way, uint32_t place) {
     if (way == 1)
-        list->above[place % 8] = place % 8 > 0 ? list->above[place % 8 - 1] + place % 2 : place % 2;
+        thresholds[place % 8] = place % 8 > 0 ? thresholds[place % 8 - 1] + place % 2 : place % 2;
     if (way == 2)
-        list->waits[place % 8] = place % 3 == 0 ? 0 : 39998 + place % 3;
-    if (way == 3)
-        loads->len = place < 13 ? 50 + place % 2 : place;
+        waits[place % 8] = place % 3 == 0 ? 0 : 39998 + place % 3;
     if (way == 4)
-        loads->slots[place] = 1000000 + place % 2;
+        loads[place] = 1000000 + place % 2;
+}
+
+static void spoil_listing(uint32_t way, uint32_t place) {
+    if (way == 0)
+        plain.levels.len = gate.level_count = place % 10;
+    if (way == 3)
+        plain.loads.len = gate.load_count = place < 13 ? 50 + place % 2 : place;
+    spoil_rows(gate.thresholds, gate.waits, gate.loads, way, place);
+    spoil_rows(plain.levels.above, plain.levels.waits, plain.loads.slots, way, place);
 }
 
 static void spoil(void) {
     uint32_t way = below(4), place = below(40), more = below(2);
-    presscurlew_ledger ledger = gate.rows.ledger;
-    uint64_t oldest = gate.clock.time - 1000000 + more;
+    uint64_t oldest = gate.time - 1000000 + more;
 
     if (one_in(3)) {
         way = below(5);
-        spoil_listing(&gate.levels, &gate.rows.loads, way, place);
-        spoil_listing(&plain.levels, &plain.loads, way, place);
+        spoil_listing(way, place);
         return;
     }
-    if (one_in(2) || place + 1 >= ledger.len) {
+    if (one_in(2) || place + 1 >= gate.admissions) {
         spoil_any((uint8_t *)&gate, sizeof gate);
         spoil_any((uint8_t *)&plain, sizeof plain);
         return;
     }
     if (way == 3) { /* all of the ledger moves with the last admission */
-        gate.last.at = oldest + ledger.slots[0] / 4096;
-        plain.last.at = gate.last.at;
+        gate.last_at = oldest + gate.air[0] / 4096;
+        plain.last.at = gate.last_at;
         return;
     }
-    spoil_ledger(&ledger, way, place, more);
-    gate.rows.ledger = ledger;
-    plain.ledger = ledger;
+    spoil_ledger(way, place, more);
+}
+
+/* Whether the gate is sound: as it says itself, and as a poll of it finds, which changes no stamp and no time. */
+static void judge(void) {
+    uint32_t sound = presscurlew_is_sound(&gate);
+
+    lend();
+    presscurlew_reply r = presscurlew_poll(&gate, gate.stamp);
+
+    add(sound);
+    add_gate(&gate);
+    add_reply(&r);
+    mistakes += sound != (r.kind != PRESSCURLEW_REFUSED) || (sound == 0 && r.number != PRESSCURLEW_NO_STATE);
+    gate = given;
+}
+
+/* A call of a kind that there is not: the archive's own refusal. The calls of the header never ask so. */
+static void no_such_call(uint32_t kind) {
+    lend();
+    presscurlew_reply r = presscurlew_gate_call(PRESSCURLEW_PARTS(&gate), kind, 1, 1, 1, 1, gate.stamp);
+
+    add_reply(&r);
+    mistakes += r.kind != PRESSCURLEW_REFUSED || r.number != PRESSCURLEW_BAD_KIND ||
+                memcmp(&given, &gate, sizeof gate) != 0;
 }
 
 static void any_call(void) {
@@ -586,23 +654,24 @@ static void any_call(void) {
 
 /* Some calls on a spoiled copy, on one at the end of its clock or on one at the end of its count, and then back. */
 static void aside(void) {
-    static presscurlew_state gate_before;
+    static presscurlew_gate gate_before;
     static presscurlew_plain_state plain_before;
     uint32_t now_before = now, closed_before = closed_for, way = below(8);
-    uint64_t more = UINT64_C(999999999999998) - gate.counts.accepted;
+    uint64_t more = UINT64_C(999999999999998) - gate.accepted;
 
     gate_before = gate;
     plain_before = plain;
     if (way == 0)
-        grow_old(UINT64_C(999999999990000) - gate.clock.time);
+        grow_old(UINT64_C(999999999990000) - gate.time);
     if (way == 1) {
-        gate.counts.accepted += more;
+        gate.accepted += more;
         plain.counts.accepted += more;
-        gate.counts.sent += more;
+        gate.sent += more;
         plain.counts.sent += more;
     }
     if (way > 1)
         spoil();
+    judge();
     if (way > 1)
         burst();
     for (int i = 0; i < (way > 1 ? 1 : 8); i++)
@@ -653,41 +722,50 @@ static void play_loads(void) {
     for (uint32_t i = 0; i < 2 * 1001; i++) {
         uint32_t ontime = ontimes[i % 2], load = i / 2 * 1000;
         presscurlew_wait_answer answer = presscurlew_wait(4, 0, 600000, ontime, load);
-        presscurlew_turn t = presscurlew_make(4, 0, presscurlew_no_list(), 0);
-        presscurlew_plain_turn u = presscurlew_plain_make(4, 0, presscurlew_no_list(), 0);
+        presscurlew_reply r = presscurlew_make(&gate, 4, 0, NULL, 0);
+        presscurlew_plain_turn u = presscurlew_plain_make(4, 0, presscurlew_plain_no_list(), 0);
 
-        t = presscurlew_offer(t.state, 1, 0, ontime, 60000000, 0);
+        add(r.kind);
+        r = presscurlew_offer(&gate, 1, 0, ontime, 60000000, 0);
         u = presscurlew_plain_offer(u.state, 1, 0, ontime, 60000000, 0);
-        t = presscurlew_poll(t.state, 0);
+        add(r.kind);
+        r = presscurlew_poll(&gate, 0);
         u = presscurlew_plain_poll(u.state, 0);
-        t = presscurlew_offer(t.state, 2, 0, ontime, 60000000, 0);
+        add(r.kind);
+        r = presscurlew_offer(&gate, 2, 0, ontime, 60000000, 0);
         u = presscurlew_plain_offer(u.state, 2, 0, ontime, 60000000, 0);
-        t = presscurlew_sample_count(t.state, i / 2, 1000, 0);
+        add(r.kind);
+        r = presscurlew_sample_count(&gate, i / 2, 1000, 0);
         u = presscurlew_plain_sample_count(u.state, i / 2, 1000, 0);
-        t = presscurlew_poll(t.state, 0);
+        add(r.kind);
+        r = presscurlew_poll(&gate, 0);
         u = presscurlew_plain_poll(u.state, 0);
         add_refusal(answer.refusal);
         add(answer.wait);
-        took(&t);
+        add_gate(&gate);
+        add_reply(&r);
         plain_took(&u);
     }
 }
 
-/* Makes that are refused, and calls on what they hand back. */
+/* Makes that are refused, and calls on what they leave; and no call at all. */
 static void play_none(void) {
     static const uint32_t bad[][2] = {{0, 0}, {77, 1}, {1, 2}, {4294967295u, 4294967295u}};
+    static const uint32_t none[] = {0, 4, 5, 4294967295u};
 
     for (int i = 0; i < 4; i++) {
         make(bad[i][0], bad[i][1]);
         for (int k = 0; k < 4; k++)
             any_call();
+        no_such_call(none[i]);
     }
     for (int i = 0; i < 20; i++) {
         uint32_t profile = i < 16 ? 5 : 1 + below(6), when_full = below(i < 16 ? 2 : 3);
         presscurlew_levels list = draw_list(0);
 
-        make_with(profile, when_full, list);
+        make_with(profile, when_full, &list);
         any_call();
+        no_such_call(4 + below(4));
     }
 }
 
@@ -698,7 +776,7 @@ static int all_seen(void) {
         seen = seen && kinds[i] > 0;
     for (int i = 1; i <= 15; i++)
         seen = seen && refusals[i] > 0;
-    return seen && refusals[16] == 0;
+    return seen && refusals[16] == 0 && mistakes == 0;
 }
 
 int main(void) {

@@ -3,8 +3,8 @@
  *
  * Link libpresscurlew.a; pkg-config and CMake know it as presscurlew. It gathers four archives, which can be linked
  * each for itself:
- *   the gate    make, sample, offer and poll on a state that the host keeps, and their log  libhost.a
- *   the burst   many offers on such a state in one call                                     libbursts.a
+ *   the gate    make, sample, offer and poll on a gate that the host keeps, and their log   libhost.a
+ *   the burst   many offers on such a gate in one call                                      libcalllog.a
  *   the rules   the gate's rules on plain numbers, for a stack that has a gate of its own   libcstack.a
  *   in doubles  profile 3's update in floating point, for simulations                       libfloats.a
  * They are for x86-64 Linux (System V calling convention). For ARM and RISC-V boards all of them, and the second
@@ -13,19 +13,19 @@
  *
  * presscurlew_plain.h has the gate once more, written to be read and not for speed: it is for tests and the assessor.
  *
- * Each call is proved to answer what its comment says, for any numbers and any state at all: nothing is
- * undefined and nothing aborts. All are pure functions: what they need comes in by value (but for the words
- * of a sample and the records of a burst, which are only read) and what they give goes out by value (but for
- * the answers of a burst and a record of the log, which are written). They keep nothing, allocate nothing and
- * take no lock. Any number of threads, and interrupt handlers, may call them at once.
+ * Each call is proved to answer what its comment says, for any numbers and any gate at all: nothing is undefined and
+ * nothing aborts. A call changes what is behind the pointers that it writes through, as its comment says, and nothing
+ * else; it keeps nothing, allocates nothing and takes no lock. So any number of threads, and interrupt handlers, may
+ * call at once, as long as each gate is in one call at a time.
  *
- * One precondition, of the calls that take pointers, and no other: behind each pointer stand as many bytes or words as
- * the count beside it says, and none that is written is one that is read. No call can test that, and the proofs say
- * nothing of a call that breaks it.
+ * One precondition, of the calls that take pointers, and no other: behind each pointer stands what it points to, a
+ * gate, a list, or as many bytes or words as the count beside it says; and what a call writes overlaps with nothing
+ * else that it is given. So a list, words, records and answers do not lie inside the gate, nor answers in the records.
+ * No call can test that, and the proofs say nothing of a call that breaks it.
  *
  * What it takes, as found by trying many states (docs/INTEGRATING.md has the figures; they are no bounds): up to some
- * 4,500 instructions a call, 18,500 for a burst of 20 offers; up to 7.1 kB of stack below the caller, who holds a state
- * of 1,072 bytes and a turn of 1,112. The archive has 45 kB and no variables, and needs memcpy, memmove and memset.
+ * 2,400 instructions a call, 3,800 for a sample of 196 words and 12,000 for a burst of 20 offers; up to 0.9 kB of stack
+ * below the caller, who holds a gate of 952 bytes. The archive has 26 kB and no variables, and needs memmove and memset.
  *
  * Units
  *   time      microseconds (us)
@@ -58,8 +58,8 @@
 #include <stdint.h>
 
 /*
- * The proved code is compiled for a little-endian processor: it may look for a part of a number where such a one has it.
- * So on a big-endian one an archive could answer wrongly without a sign, and there is none for it.
+ * The proved code is compiled for a little-endian processor: it may look for a part of a number where such a one has
+ * it. So on a big-endian one an archive could answer wrongly without a sign, and there is none for it.
  */
 #if defined(__BYTE_ORDER__) && __BYTE_ORDER__ != __ORDER_LITTLE_ENDIAN__
 #error "presscurlew is for little-endian processors: see docs/BOARDS.md"
@@ -81,6 +81,15 @@
 #error "presscurlew.h: no archive is made for this processor"
 #endif
 
+/* An answer that is dropped is a warning: a refusal would go by unseen, or a packet that is to be sent. */
+#if (defined(__cplusplus) && __cplusplus >= 201703L) || (defined(__STDC_VERSION__) && __STDC_VERSION__ >= 202311L)
+#define PRESSCURLEW_NODISCARD [[nodiscard]]
+#elif defined(__GNUC__)
+#define PRESSCURLEW_NODISCARD __attribute__((warn_unused_result))
+#else
+#define PRESSCURLEW_NODISCARD
+#endif
+
 #ifdef __cplusplus
 extern "C" {
 #endif
@@ -91,24 +100,26 @@ extern "C" {
  *
  * The version, and the number of the layout: a check sum of the sizes and offsets of all structs and of the types of
  * all calls below, which is another one whenever any of these is. A host that is compiled with one header and linked
- * with the archive of another layout would read the state's bytes for what they are not. So it asks once, as it starts:
+ * with the archive of another layout would read the gate's bytes for what they are not. So it asks once, as it starts:
  *
  *   if (presscurlew_layout() != PRESSCURLEW_LAYOUT)
  *       stop("libpresscurlew.a is not of this presscurlew.h");
  */
-#define PRESSCURLEW_VERSION "0.9.0"
-#define PRESSCURLEW_VERSION_NUMBER 9000u /* a million for each major and a thousand for each minor number */
-#define PRESSCURLEW_LAYOUT 1764727010u
+#define PRESSCURLEW_VERSION "0.10.0"
+#define PRESSCURLEW_VERSION_NUMBER 10000u /* a million for each major and a thousand for each minor number */
+#define PRESSCURLEW_LAYOUT 2252050035u
 
 /* The PRESSCURLEW_VERSION_NUMBER and the PRESSCURLEW_LAYOUT of the archive. */
+PRESSCURLEW_NODISCARD
 uint32_t presscurlew_version(void);
+PRESSCURLEW_NODISCARD
 uint32_t presscurlew_layout(void);
 
 /*
  * The refusal numbers of the gate. A call tests 9, 2 and 3, then 4, or 5 to 8 and 11, as they apply; the first
- * that holds is the answer. A refused call changes nothing: it hands back the state that it was given,
- * clock and counts included. A burst tests 13, then 12, and then goes record by record. What the calls that
- * write the log refuse stands with them.
+ * that holds is the answer. A refused call changes nothing of the gate, clock and counts included; only a refused make
+ * writes it, and leaves the all-zero gate. A burst tests 13, then 12, and then goes record by record. What the calls
+ * that write the log refuse stands with them.
  */
 enum presscurlew_refusal {
     PRESSCURLEW_BAD_PROFILE = 1,  /* make: the profile is not 1 to 5, or when_full is above 1 */
@@ -119,7 +130,7 @@ enum presscurlew_refusal {
     PRESSCURLEW_BAD_ON_TIME = 6,  /* the profile does not allow this on-time */
     PRESSCURLEW_BAD_LIFETIME = 7, /* the lifetime is 0 or above 60,000,000 */
     PRESSCURLEW_QUEUE_FULL = 8,   /* 5 unexpired packets of this priority wait, in a gate of REFUSE_NEW */
-    PRESSCURLEW_NO_STATE = 9,     /* the state is not sound: make refused it, or it was changed */
+    PRESSCURLEW_NO_STATE = 9,     /* the gate is not sound: it was not made, or make was refused, or it was changed */
     PRESSCURLEW_BAD_KIND = 10,    /* burst, as the answer to one record: its kind is not 2 */
     PRESSCURLEW_SPENT = 11,       /* the gate has accepted 10^15 offers */
     PRESSCURLEW_NO_ROOM = 12,     /* burst: fewer answer bytes than records; log: no 16 bytes at that place */
@@ -153,32 +164,30 @@ static inline const char *presscurlew_refusal_name(uint64_t number) {
  * The gate
  * ========
  *
- * The host keeps a presscurlew_state for each channel. Each call takes the state by value and hands back
- * the next one, with an answer:
+ * The host keeps a presscurlew_gate for each channel. It lends it to each call, which changes it in place and answers:
  *
- *   presscurlew_turn turn = presscurlew_make(1, PRESSCURLEW_DROP_OLDEST, presscurlew_no_list(), radio_clock());
- *   presscurlew_state state = turn.state;
+ *   static presscurlew_gate gate;
+ *   presscurlew_reply reply = presscurlew_make(&gate, 1, PRESSCURLEW_DROP_OLDEST, NULL, radio_clock());
  *   ...
- *   turn = presscurlew_offer(state, id, priority, ontime, lifetime, radio_clock());
- *   state = turn.state;
- *   if (turn.reply.kind == PRESSCURLEW_REFUSED)
- *       report(turn.reply.number);
+ *   reply = presscurlew_offer(&gate, id, priority, ontime, lifetime, radio_clock());
+ *   if (reply.kind == PRESSCURLEW_REFUSED)
+ *       report(reply.number);
  *   ...
- *   turn = presscurlew_poll(state, radio_clock());
- *   state = turn.state;
- *   if (turn.reply.kind == PRESSCURLEW_SENT)
- *       transmit(turn.reply.packet.id);
+ *   reply = presscurlew_poll(&gate, radio_clock());
+ *   if (reply.kind == PRESSCURLEW_SENT)
+ *       transmit(reply.packet.id);
  *
  * What the host does:
- *   - It keeps the state of the last call and hands it back unchanged. It may store it, copy it and move it
- *     to another thread, but it uses each state for one call: two calls on copies of one state are two
+ *   - It makes a gate before any other call on it, and after that changes none of its fields. It may read them at any
+ *     time, and copy, store and move a gate as any struct. But it goes on with one copy: calls on two copies are two
  *     gates, and each admits for itself.
+ *   - It uses a gate in one thread at a time, and reads no field while another thread is in a call on it.
  *   - After presscurlew_make it waits: the first poll comes 1,000,000 us or more after the make (samples and offers may
- *     come before). A fresh state knows nothing of what was sent before it, so without this second a host that restarts
+ *     come before). A fresh gate knows nothing of what was sent before it, so without this second a host that restarts
  *     may send more than the figures above allow; with it they hold across any number of restarts, whatever the
  *     profiles (proved: crates/label, restarts-keep and waiting-restarts). Only a host that goes on with its stored
- *     state, the very one that its last call handed back, on a clock that has run on for less than 35 minutes, makes
- *     nothing and need not wait.
+ *     gate, the very one that its last call left, on a clock that has run on for less than 35 minutes, makes nothing
+ *     and need not wait. presscurlew_is_sound says whether what it has read back can be a gate.
  *   - It sends a packet when, and only when, a poll answers SENT, and each one once.
  *   - It reads stamps from one clock, and calls often enough that the clock moves by less than 2^31 us
  *     (some 35 minutes) from one call to the next; a longer step looks like a clock that went back. A step of
@@ -187,116 +196,49 @@ static inline const char *presscurlew_refusal_name(uint64_t number) {
  *     time. A packet's place is free again after the first offer or poll that finds it expired.
  *   - It samples the channel as its standard says; whether 100 ms passed between samples is not judged.
  *
- * Any state at all is answered. One that no call handed out is refused with NO_STATE unless it is sound:
- * live is 1, every field lies within the limits that are named at it, the counts add up, and everything unused
- * is zero. Padding bytes are not looked at.
+ * Any gate at all is answered. One that no call left is refused with NO_STATE unless it is sound: live is 1, every
+ * field lies within the limits that are named at it, the counts add up, and everything unused is zero.
  */
 
-/* A packet that waits. An unused slot is all zero. */
+/* A packet, as a poll that answers SENT hands it out. */
 typedef struct presscurlew_packet {
     uint32_t id;       /* the host's own name for it: any number, repeats allowed */
-    uint32_t priority; /* 0 to 3; it waits in the queue of this number */
+    uint32_t priority; /* 0 to 3 */
     uint32_t ontime;   /* 1 to the longest that the profile allows */
     uint32_t lifetime; /* 1 to 60,000,000; it is expired once it has waited so long */
     uint64_t arrival;  /* the running time at which it was offered; at most the running time */
 } presscurlew_packet;
 
+/* A packet that waits, in the queue of its priority. A place that is not used is all zero. */
+typedef struct presscurlew_waiting {
+    uint32_t id;       /* the host's own name for it: any number, repeats allowed */
+    uint32_t ontime;   /* 1 to the longest that the profile allows */
+    uint32_t lifetime; /* 1 to 60,000,000; it is expired once it has waited so long */
+} presscurlew_waiting;
+
 /* The packets of one priority. */
 typedef struct presscurlew_queue {
-    uint64_t len;                /* how many wait, 0 to 5; the archive's lengths have 64 bits, as size_t on x86-64 */
-    presscurlew_packet slots[5]; /* the first len wait, the oldest first; the others are all zero */
+    uint32_t len;                   /* how many wait, 0 to 5 */
+    presscurlew_waiting packets[5]; /* the first len wait, the oldest first; the others are all zero */
 } presscurlew_queue;
 
-/* The running time, and the stamp that it was reached with. */
-typedef struct presscurlew_clock {
-    uint64_t time;  /* since make; at most 10^15 */
-    uint32_t stamp; /* of the last call that was not refused: any number */
-} presscurlew_clock;
-
 /*
- * The ledger: the admissions of the last second, in every profile. Room for 40 is enough, as no two admissions of one
- * gate are less than 25,000 us apart. Every call that is not refused, a sample too, drops those that have reached
- * 1,000,000 us of age, and a poll that answers SENT notes its packet; a refused call drops nothing.
- *
- * Each is one word: how long before the last admission, that of last.at, it was made, times 4,096, and its on-time. The
- * state is copied at every call. So the ledger has 168 bytes of it; with a time and an on-time each it would be 488.
- *
- *   made at the running time   last.at - word / 4096
- *   on-time                    word % 4096
- *
- * The newest is the last admission, so that its word is its on-time.
- *
- * It is sound if no word says more than last.at before it, its admissions are in order of time with gaps of at least
- * 25,000 us, each at most the running time and less than 1,000,000 us before it, their on-times are allowed and sum to
- * at most 30,000, and the newest is the last admission; where nothing was admitted, or the last admission is
- * 1,000,000 us old or older, it is empty.
- */
-typedef struct presscurlew_ledger {
-    uint64_t len;       /* how many it holds, 0 to 40 */
-    uint32_t slots[40]; /* the first len are their words, the oldest first; the others are 0 */
-} presscurlew_ledger;
-
-/*
- * Profile 5's list of levels, which make is given; in the state of any other profile all fields are 0. Level 0 has
- * threshold 0 and the wait `wait`; level k, for k from 1 to len, has threshold above[k - 1] and wait waits[k - 1].
+ * Profile 5's list of levels, which make is given. Level 0 has threshold 0 and the wait `base_wait`; level k, for k
+ * from 1 to count, has threshold thresholds[k - 1] and wait waits[k - 1].
  *
  * A list is good if all of these hold, whether waits rise or fall from level to level; make refuses any other with
  * BAD_LIST:
- *   - len is 1 to 8;
+ *   - count is 1 to 8;
  *   - the wait of each level, that of level 0 too, is 40,000 to 1,000,000;
  *   - the thresholds are at most 1,000,000 and rise strictly, from level 0's: the first is 1 or more.
- * What a list that is handed to make has past its length is not looked at; in a state it is 0.
+ * What a list that is handed to make has past its count is not looked at; in a gate it is 0.
  */
 typedef struct presscurlew_levels {
-    uint64_t len;      /* how many levels there are above level 0: 1 to 8 */
-    uint32_t wait;     /* of level 0, in us */
-    uint32_t above[8]; /* the thresholds of levels 1 to len, as loads */
-    uint32_t waits[8]; /* their waits, in us */
+    uint32_t count;         /* how many levels there are above level 0: 1 to 8 */
+    uint32_t base_wait;     /* the wait of level 0, in us */
+    uint32_t thresholds[8]; /* the thresholds of levels 1 to count, as loads */
+    uint32_t waits[8];      /* their waits, in us */
 } presscurlew_levels;
-
-/* The loads of the last samples that were taken, in profile 5; in the state of any other profile all fields are 0. */
-typedef struct presscurlew_loads {
-    uint64_t len;       /* how many it holds, 0 to 50 */
-    uint32_t slots[50]; /* the first len, the oldest first, each at most 1,000,000; the others are 0 */
-} presscurlew_loads;
-
-/* What calls change in rows. */
-typedef struct presscurlew_rows {
-    presscurlew_ledger ledger;
-    presscurlew_loads loads;
-} presscurlew_rows;
-
-/* The last admission, however long ago. Before the first one all fields are 0. */
-typedef struct presscurlew_last {
-    uint64_t at;       /* the running time at which it was made; at most the running time */
-    uint32_t ontime;   /* the on-time of its packet */
-    uint32_t admitted; /* 1 once something was admitted, else 0 */
-} presscurlew_last;
-
-/*
- * What the gate has counted since make, to read at any time:
- *
- *   accepted = sent + expired + displaced + the packets that wait
- *
- * The sum is that of whole numbers: counts that add up only modulo 2^64 are not sound. Which of them are 0 is not
- * judged: a state of REFUSE_NEW with packets displaced is sound, though no call leads to one.
- */
-typedef struct presscurlew_counts {
-    uint64_t accepted;  /* offers that were TAKEN; at most 10^15 */
-    uint64_t sent;      /* packets that were SENT */
-    uint64_t expired;   /* packets that were removed as expired, at an offer or a poll; a sample removes none */
-    uint64_t displaced; /* packets that were dropped for a newer one; a gate of REFUSE_NEW drops none */
-} presscurlew_counts;
-
-/* What samples steer. The profile, which says how, stands beside it in the state. */
-typedef struct presscurlew_tuning {
-    uint32_t level;    /* 0 to 4, and profiles 1 and 2 move it; in profile 5, which moves it too, 0 to the list's len */
-    uint32_t duty;     /* 600,000 to 30,000,000; profile 3 moves it */
-    uint32_t smoothed; /* the smoothed load, at most 1,000,000; profile 3 moves it */
-    uint32_t kept;     /* profile 3: the load of the first sample of a pair, at most 1,000,000; 0 if none is kept */
-    uint32_t pairing;  /* 1 while a sample is kept, else 0 */
-    uint32_t latest;   /* profile 4: the load of the latest sample, at most 1,000,000, 0 before any; else 0 */
-} presscurlew_tuning;
 
 /* What a gate does with an offer that finds 5 unexpired packets of its priority; it is said when the gate is made. */
 enum presscurlew_when_full {
@@ -304,23 +246,68 @@ enum presscurlew_when_full {
     PRESSCURLEW_REFUSE_NEW = 1   /* QUEUE_FULL: what was taken once is sent or expires, and is never displaced */
 };
 
-/* The state of one gate: 1,072 bytes. */
-typedef struct presscurlew_state {
+/*
+ * A gate: 952 bytes without padding. The calls find all of it by its place, as it stands here; a host need not look
+ * inside.
+ *
+ * The counts, to read at any time, add up:
+ *
+ *   accepted = sent + expired + displaced + the packets that wait
+ *
+ * The sum is that of whole numbers: counts that add up only modulo 2^64 are not sound. Which of them are 0 is not
+ * judged: a gate of REFUSE_NEW with packets displaced is sound, though no call leads to one.
+ *
+ * The ledger is the admissions of the last second, in every profile. Room for 40 is enough, as no two admissions of one
+ * gate are less than 25,000 us apart. Every call that is not refused, a sample too, drops those that have reached
+ * 1,000,000 us of age, and a poll that answers SENT notes its packet; a refused call drops nothing. Each is one word:
+ * how long before the last admission, that of last_at, it was made, times 4,096, and its on-time.
+ *
+ *   made at the running time   last_at - word / 4096
+ *   on-time                    word % 4096
+ *
+ * The newest is the last admission, so that its word is its on-time.
+ *
+ * It is sound if no word says more than last_at before it, its admissions are in order of time with gaps of at least
+ * 25,000 us, each at most the running time and less than 1,000,000 us before it, their on-times are allowed and sum to
+ * at most 30,000, and the newest is the last admission; where nothing was admitted, or the last admission is
+ * 1,000,000 us old or older, it is empty.
+ */
+typedef struct presscurlew_gate {
+    uint64_t time;               /* the running time: since make; at most 10^15 */
+    uint64_t last_at;            /* the last admission: the running time at which it was made; 0 before the first */
+    uint64_t accepted;           /* offers that were TAKEN; at most 10^15 */
+    uint64_t sent;               /* packets that were SENT */
+    uint64_t expired;            /* packets that were removed as expired at an offer or a poll; a sample removes none */
+    uint64_t displaced;          /* packets that were dropped for a newer one; a gate of REFUSE_NEW drops none */
+    uint64_t arrivals[4][5];     /* by queue and place: the running time at which the packet there was offered, at most
+                                    the running time and not before the packet in front of it; 0 where there is none */
+    uint32_t stamp;              /* of the last call that was not refused: any number */
+    uint32_t last_ontime;        /* the last admission: the on-time of its packet; 0 before the first */
+    uint32_t admitted;           /* 1 once something was admitted, else 0 */
+    uint32_t level;              /* 0 to 4, and profiles 1 and 2 move it; profile 5 moves it too, 0 to level_count */
+    uint32_t duty;               /* 600,000 to 30,000,000; profile 3 moves it */
+    uint32_t smoothed;           /* the smoothed load, at most 1,000,000; profile 3 moves it */
+    uint32_t kept;               /* profile 3: the first load of a pair, at most 1,000,000; 0 if none is kept */
+    uint32_t pairing;            /* 1 while a sample is kept, else 0 */
+    uint32_t latest;             /* profile 4: load of the latest sample, at most 1,000,000, 0 before any; else 0 */
+    uint32_t admissions;         /* how many the ledger holds, 0 to 40 */
+    uint32_t load_count;         /* profile 5: how many loads are kept, 0 to 50; else 0 */
+    uint32_t profile;            /* 1 to 5, as it was made; no call changes it */
+    uint32_t when_full;          /* 0 or 1, an enum presscurlew_when_full, as it was made; no call changes it */
+    uint32_t live;               /* 1; 0 in the all-zero gate that a refused make leaves */
+    uint32_t level_count;        /* profile 5: the count of its list, as it was made; else 0 */
+    uint32_t base_wait;          /* profile 5: the wait of level 0, as it was made; else 0 */
     presscurlew_queue queues[4]; /* by priority */
-    presscurlew_levels levels;   /* as it was made; no call changes it */
-    presscurlew_rows rows;
-    presscurlew_clock clock;
-    presscurlew_last last;
-    presscurlew_counts counts;
-    presscurlew_tuning tuning;
-    uint32_t profile; /* 1 to 5, as it was made; no call changes it */
-    uint32_t oldway;  /* 0 or 1, an enum presscurlew_when_full, as it was made; no call changes it */
-    uint32_t live;    /* 1; 0 in the all-zero state that a refused make hands back */
-} presscurlew_state;
+    uint32_t air[40];            /* the ledger: the first `admissions` are its words, the oldest first; the others 0 */
+    uint32_t loads[50];          /* the first load_count are the loads of the last samples, the oldest first, each at
+                                    most 1,000,000; the others are 0 */
+    uint32_t thresholds[8];      /* the first level_count are those of the list, as it was made; the others are 0 */
+    uint32_t waits[8];           /* likewise */
+} presscurlew_gate;
 
 /* The kinds of answers. */
 enum presscurlew_kind {
-    PRESSCURLEW_READY = 0,  /* make: the state is fresh */
+    PRESSCURLEW_READY = 0,  /* make: the gate is fresh */
     PRESSCURLEW_TAKEN = 1,  /* the sample or the packet was taken */
     PRESSCURLEW_SENT = 2,   /* poll: `packet` has left its queue and goes on air now */
     PRESSCURLEW_IDLE = 3,   /* poll: nothing waits */
@@ -335,32 +322,69 @@ typedef struct presscurlew_reply {
     uint32_t kind;             /* an enum presscurlew_kind */
 } presscurlew_reply;
 
-/* What a call hands back. */
-typedef struct presscurlew_turn {
-    presscurlew_state state; /* to keep, and to hand to the next call */
-    presscurlew_reply reply;
-} presscurlew_turn;
+/*
+ * What the archives export of the gate: the calls below hand the parts of a gate on to these, and do nothing else. A
+ * host calls those below. `wide` are the six numbers from `time` on, `narrow` the sixteen from `stamp` on.
+ */
+PRESSCURLEW_NODISCARD
+presscurlew_reply presscurlew_gate_make(uint64_t *wide, uint32_t *narrow, uint32_t *queues, uint64_t *arrivals,
+                                        uint32_t *air, uint32_t *loads, uint32_t *thresholds, uint32_t *waits,
+                                        uint32_t profile, uint32_t when_full, uint32_t count, uint32_t base_wait,
+                                        const uint32_t *list_thresholds, const uint32_t *list_waits, uint32_t stamp);
+
+/* A sample by count (kind 1: a busy, b probes), an offer (2: id, priority, on-time, lifetime) or a poll (3). */
+PRESSCURLEW_NODISCARD
+presscurlew_reply presscurlew_gate_call(uint64_t *wide, uint32_t *narrow, uint32_t *queues, uint64_t *arrivals,
+                                        uint32_t *air, uint32_t *loads, const uint32_t *thresholds,
+                                        const uint32_t *waits, uint32_t kind, uint32_t a, uint32_t b, uint32_t c,
+                                        uint32_t d, uint32_t stamp);
+
+PRESSCURLEW_NODISCARD
+uint32_t presscurlew_gate_burst(uint64_t *wide, uint32_t *narrow, uint32_t *queues, uint64_t *arrivals, uint32_t *air,
+                                uint32_t *loads, const uint32_t *thresholds, const uint32_t *waits,
+                                const uint8_t *records, size_t bytes, uint8_t *answers, size_t room);
+
+PRESSCURLEW_NODISCARD
+uint32_t presscurlew_gate_sound(const uint64_t *wide, const uint32_t *narrow, const uint32_t *queues,
+                                const uint64_t *arrivals, const uint32_t *air, const uint32_t *loads,
+                                const uint32_t *thresholds, const uint32_t *waits);
+
+/* The parts of a gate, as these take them. */
+#define PRESSCURLEW_PARTS(gate)                                                                                        \
+    &(gate)->time, &(gate)->stamp, &(gate)->queues[0].len, &(gate)->arrivals[0][0], (gate)->air, (gate)->loads,        \
+        (gate)->thresholds, (gate)->waits
 
 /*
- * A fresh state: running time 0, level 0, duty 600,000, smoothed and latest load 0, nothing kept, nothing
- * admitted, nothing waiting, nothing counted, no loads. `when_full` is an enum presscurlew_when_full, which the state
- * keeps, and `stamp` is the radio's clock now. READY.
+ * Makes a fresh gate, whatever was there before: running time 0, level 0, duty 600,000, smoothed and latest load 0,
+ * nothing kept, nothing admitted, nothing waiting, nothing counted, no loads. `when_full` is an enum
+ * presscurlew_when_full, which the gate keeps, and `stamp` is the radio's clock now. READY.
  *
- * `list` is profile 5's, which the state keeps. No other profile looks at it: presscurlew_no_list() says so.
+ * `list` is profile 5's, which the gate keeps: it is read here and not again, and does not lie inside the gate. No
+ * other profile looks at it. NULL is no list, which profile 5 refuses with BAD_LIST.
  *
  *   presscurlew_levels list = {2, 60000, {300000, 600000}, {200000, 1000000}};
- *   presscurlew_turn turn = presscurlew_make(5, PRESSCURLEW_DROP_OLDEST, list, radio_clock());
+ *   presscurlew_reply reply = presscurlew_make(&gate, 5, PRESSCURLEW_DROP_OLDEST, &list, radio_clock());
  *
- * Refusals: BAD_PROFILE, then in profile 5 BAD_LIST; either with the all-zero state, which every other call refuses
+ * Refusals: BAD_PROFILE, then in profile 5 BAD_LIST; either leaves the all-zero gate, which every other call refuses
  * with NO_STATE.
  */
-presscurlew_turn presscurlew_make(uint32_t profile, uint32_t when_full, presscurlew_levels list, uint32_t stamp);
+PRESSCURLEW_NODISCARD
+static inline presscurlew_reply presscurlew_make(presscurlew_gate *gate, uint32_t profile, uint32_t when_full,
+                                                 const presscurlew_levels *list, uint32_t stamp) {
+    static const presscurlew_levels none = {0, 0, {0}, {0}};
+    const presscurlew_levels *given = list != NULL ? list : &none;
 
-/* No list of levels, for profiles 1 to 4; profile 5 refuses it with BAD_LIST. */
-static inline presscurlew_levels presscurlew_no_list(void) {
-    presscurlew_levels none = {0, 0, {0, 0, 0, 0, 0, 0, 0, 0}, {0, 0, 0, 0, 0, 0, 0, 0}};
+    return presscurlew_gate_make(PRESSCURLEW_PARTS(gate), profile, when_full, given->count, given->base_wait,
+                                 given->thresholds, given->waits, stamp);
+}
 
-    return none;
+/*
+ * 1 if the gate is sound, else 0: one that is not gets NO_STATE from every other call but make. Any other refusal comes
+ * after this test.
+ */
+PRESSCURLEW_NODISCARD
+static inline uint32_t presscurlew_is_sound(const presscurlew_gate *gate) {
+    return presscurlew_gate_sound(PRESSCURLEW_PARTS(gate));
 }
 
 /*
@@ -371,9 +395,7 @@ enum { PRESSCURLEW_MOST_PROBES = 12500, PRESSCURLEW_MOST_WORDS = 196 };
 #define PRESSCURLEW_WORDS(probes) (((probes) + 63) / 64)
 
 /*
- * A sample of the channel: 1 to 12,500 probes, 64 in a word. Probe k is bit k mod 64 of word k / 64, and is 1 where the
- * channel was busy; the bits of the last word that are no probes are 0. TAKEN. `words` points to `count` words, which
- * are only read; with count 0 it may be NULL.
+ * A sample of the channel by its busy count: `busy` of `probes`, 1 to 12,500. TAKEN.
  *
  *   load = floor(1,000,000 x busy / probes)
  *
@@ -393,24 +415,42 @@ enum { PRESSCURLEW_MOST_PROBES = 12500, PRESSCURLEW_MOST_WORDS = 196 };
  * A sample expires nothing and counts nothing. It drops aged admissions from the ledger, as every call does that is not
  * refused.
  *
+ * Refusals: NO_STATE, CLOCK_BACK, CLOCK_END; BAD_SAMPLE if `probes` is not 1 to 12,500, or `busy` is above it.
+ */
+PRESSCURLEW_NODISCARD
+static inline presscurlew_reply presscurlew_sample_count(presscurlew_gate *gate, uint32_t busy, uint32_t probes,
+                                                         uint32_t stamp) {
+    return presscurlew_gate_call(PRESSCURLEW_PARTS(gate), 1, busy, probes, 0, 0, stamp);
+}
+
+/*
+ * How many of the probes in the words are busy: 1 to 12,500 probes, 64 in a word. Probe k is bit k mod 64 of word
+ * k / 64, and is 1 where the channel was busy; the bits of the last word that are no probes are 0. `words` points to
+ * `count` words, which are only read; with count 0 it may be NULL.
+ *
+ * Words are bad if `probes` is not 1 to 12,500, `count` is not that number of probes over 64, rounded up, or a bit of
+ * the last word is 1 that is no probe. (Where 64 divides the probes all bits are probes.) Of these the number is
+ * 4,294,967,295, which no sample has: by that count it is refused with BAD_SAMPLE, as it should be.
+ */
+PRESSCURLEW_NODISCARD
+uint32_t presscurlew_busy(uint32_t probes, const uint64_t *words, size_t count);
+
+/*
+ * A sample of the channel by words: the one by the count that presscurlew_busy gives of them. TAKEN.
+ *
  *   uint64_t words[PRESSCURLEW_WORDS(12500)] = {0};
  *   for (unsigned k = 0; k < 12500; k++)
  *       if (channel_was_busy(k))
  *           words[k / 64] |= UINT64_C(1) << k % 64;
- *   turn = presscurlew_sample_words(state, 12500, words, PRESSCURLEW_WORDS(12500), radio_clock());
+ *   reply = presscurlew_sample_words(&gate, 12500, words, PRESSCURLEW_WORDS(12500), radio_clock());
  *
- * Refusals: NO_STATE, CLOCK_BACK, CLOCK_END; BAD_SAMPLE if `probes` is not 1 to 12,500, `count` is not that number of
- * probes over 64, rounded up, or a bit of the last word is 1 that is no probe. Where 64 divides the probes all bits are
- * probes.
+ * Refusals: NO_STATE, CLOCK_BACK, CLOCK_END; BAD_SAMPLE if the words are bad.
  */
-presscurlew_turn presscurlew_sample_words(presscurlew_state state, uint32_t probes, const uint64_t *words, size_t count,
-                                          uint32_t stamp);
-
-/*
- * The same, where the radio has counted the busy probes: `busy` of `probes`. BAD_SAMPLE if `probes` is not 1 to 12,500,
- * or `busy` is above it.
- */
-presscurlew_turn presscurlew_sample_count(presscurlew_state state, uint32_t busy, uint32_t probes, uint32_t stamp);
+PRESSCURLEW_NODISCARD
+static inline presscurlew_reply presscurlew_sample_words(presscurlew_gate *gate, uint32_t probes, const uint64_t *words,
+                                                         size_t count, uint32_t stamp) {
+    return presscurlew_sample_count(gate, presscurlew_busy(probes, words, count), probes, stamp);
+}
 
 /*
  * A packet to send. The clock moves, every expired packet of all queues is removed and counted, and the packet
@@ -419,26 +459,23 @@ presscurlew_turn presscurlew_sample_count(presscurlew_state state, uint32_t busy
  * priority that is taken after it, or by a later one, and by nothing else. Which one it was is not answered; that
  * there was one shows in the counts. TAKEN.
  *
- *   turn = presscurlew_offer(state, 7, 1, 400, 100000, radio_clock());   a packet of 400 us, good for 100 ms
+ *   reply = presscurlew_offer(&gate, 7, 1, 400, 100000, radio_clock());   a packet of 400 us, good for 100 ms
  *
  * Refusals: NO_STATE, CLOCK_BACK, CLOCK_END, BAD_PRIORITY, BAD_ON_TIME, BAD_LIFETIME, QUEUE_FULL (REFUSE_NEW
  * alone), SPENT. A refused offer drops nothing.
  */
-presscurlew_turn presscurlew_offer(presscurlew_state state, uint32_t id, uint32_t priority, uint32_t ontime,
-                                   uint32_t lifetime, uint32_t stamp);
+PRESSCURLEW_NODISCARD
+static inline presscurlew_reply presscurlew_offer(presscurlew_gate *gate, uint32_t id, uint32_t priority,
+                                                  uint32_t ontime, uint32_t lifetime, uint32_t stamp) {
+    return presscurlew_gate_call(PRESSCURLEW_PARTS(gate), 2, id, priority, ontime, lifetime, stamp);
+}
 
 /* A record, of a burst or of the log, has so many bytes. The first one is its kind, in a burst this. */
 enum { PRESSCURLEW_RECORD_BYTES = 16, PRESSCURLEW_RECORD_OFFER = 2 };
 
-/* What a burst hands back. */
-typedef struct presscurlew_burst_turn {
-    presscurlew_state state; /* to keep, and to hand to the next call */
-    uint32_t number;         /* 0, PRESSCURLEW_TORN_LOG or PRESSCURLEW_NO_ROOM; of the burst, not of a record */
-} presscurlew_burst_turn;
-
 /*
- * A burst: many offers in one call, for an application that hands packets over together. The state goes there and
- * back once, so that it takes far less time than the single calls; the state after it and every answer are
+ * A burst: many offers in one call, for an application that hands packets over together. Whether the gate is sound is
+ * tested once, so that it takes far less time than the single calls; the gate after it and every answer are
  * theirs, one presscurlew_offer after the other.
  *
  * `records` points to `bytes` bytes, which are only read: 16 for each record, laid out as in the call log,
@@ -451,29 +488,31 @@ typedef struct presscurlew_burst_turn {
  * more are not written. Record by record, from the first:
  *   kind 2      is offered as by presscurlew_offer. Its answer byte is 0 for TAKEN, else the number of the refusal
  *   other kind  gets BAD_KIND and does nothing
- * A record that is refused does not stop those after it. The number is then 0, also if all were refused; with no
- * record at all it is 0, and the state is as it was.
+ * A record that is refused does not stop those after it. The number handed back is then 0, also if all were refused;
+ * with no record at all it is 0, and the gate is as it was.
  *
  *   uint8_t records[2 * PRESSCURLEW_RECORD_BYTES], answers[2];
  *   uint32_t now = radio_clock();
  *   presscurlew_put_offer(records, 7, 0, 400, 100000, now);
  *   presscurlew_put_offer(records + PRESSCURLEW_RECORD_BYTES, 8, 1, 300, 60000, now);
- *   presscurlew_burst_turn turn = presscurlew_burst(state, records, sizeof records, answers, sizeof answers);
- *   state = turn.state;
- *   for (unsigned i = 0; i < 2; i++)
- *       if (answers[i] != 0)
- *           report(i, answers[i]);
+ *   if (presscurlew_burst(&gate, records, sizeof records, answers, sizeof answers) == 0)
+ *       for (unsigned i = 0; i < 2; i++)
+ *           if (answers[i] != 0)
+ *               report(i, answers[i]);
  *
- * Refusals of the whole burst, in this order, each with the state as it was and no answer written: TORN_LOG if
+ * Refusals of the whole burst, in this order, each with the gate as it was and no answer written: TORN_LOG if
  * `bytes` is not a multiple of 16; NO_ROOM if `room` is less than bytes / 16.
- * Refusals of a record of kind 2: those of presscurlew_offer. A state that is not sound does not refuse the burst:
+ * Refusals of a record of kind 2: those of presscurlew_offer. A gate that is not sound does not refuse the burst:
  * each record of kind 2 gets NO_STATE.
  *
  * What the caller answers for, as with any C call: the two counts are those of the bytes behind the pointers, and
- * no answer byte is a byte of the records. With a count of 0 its pointer may be NULL.
+ * no answer byte is a byte of the records or of the gate. With a count of 0 its pointer may be NULL.
  */
-presscurlew_burst_turn presscurlew_burst(presscurlew_state state, const uint8_t *records, size_t bytes,
-                                         uint8_t *answers, size_t room);
+PRESSCURLEW_NODISCARD
+static inline uint32_t presscurlew_burst(presscurlew_gate *gate, const uint8_t *records, size_t bytes, uint8_t *answers,
+                                         size_t room) {
+    return presscurlew_gate_burst(PRESSCURLEW_PARTS(gate), records, bytes, answers, room);
+}
 
 /* `width` bytes of a number, the lowest first. */
 static inline void presscurlew_put_number(uint8_t *at, uint32_t number, unsigned width) {
@@ -525,7 +564,10 @@ static inline void presscurlew_put_offer(uint8_t *record, uint32_t id, uint32_t 
  *
  * Refusals: NO_STATE, CLOCK_BACK, CLOCK_END.
  */
-presscurlew_turn presscurlew_poll(presscurlew_state state, uint32_t stamp);
+PRESSCURLEW_NODISCARD
+static inline presscurlew_reply presscurlew_poll(presscurlew_gate *gate, uint32_t stamp) {
+    return presscurlew_gate_call(PRESSCURLEW_PARTS(gate), 3, 0, 0, 0, 0, stamp);
+}
 
 /*
  * The log
@@ -550,10 +592,10 @@ presscurlew_turn presscurlew_poll(presscurlew_state state, uint32_t stamp);
  *
  *   uint8_t record[PRESSCURLEW_RECORD_BYTES];
  *   uint32_t now = radio_clock();
- *   presscurlew_write_poll(now, record, sizeof record, 0);
- *   if (fwrite(record, sizeof record, 1, file) != 1 || fflush(file) != 0)
+ *   if (presscurlew_write_poll(now, record, sizeof record, 0) != 0 ||
+ *       fwrite(record, sizeof record, 1, file) != 1 || fflush(file) != 0)
  *       ...                              the host decides: go on without a log, or make no call that is not in it
- *   turn = presscurlew_poll(state, now);
+ *   reply = presscurlew_poll(&gate, now);
  *
  * A burst's records are such records already. They go to the file as they are, before the burst, one after the other:
  * played, they are the single offers, which the burst is too. That needs a burst of offers alone, as
@@ -564,10 +606,10 @@ presscurlew_turn presscurlew_poll(presscurlew_state state, uint32_t stamp);
  * make, and a record that says 5 is refused with BAD_PROFILE where it is played. Of any other profile the list is left
  * out, and the make is played without one, which is answered alike.
  *
- * A log starts with a make, and has all calls on that one state in their order. A sample by words is in it by its
+ * A log starts with a make, and has all calls on that one gate in their order. A sample by words is in it by its
  * busy count and its probe count, which are all that the gate looks at: played, it is answered alike, and so is all
- * that comes after it. So the host may take the busy count from the record, and make the sample by it; the words are
- * then counted once.
+ * that comes after it. So the host may count the busy probes by presscurlew_busy, and write and make the sample by that
+ * count; the words are then counted once.
  *
  * A refusal writes nothing. It comes where a number does not fit its bytes, whatever the gate would make of it:
  * profile 77, priority 200, 5,000 busy of 1,000 probes or any of 20,000 are written, and played they are refused as
@@ -588,22 +630,27 @@ presscurlew_turn presscurlew_poll(presscurlew_state state, uint32_t stamp);
  */
 
 /* The record of presscurlew_make, of profile 5 none. Refusals: BAD_PROFILE, NO_ROOM. */
+PRESSCURLEW_NODISCARD
 uint32_t presscurlew_write_make(uint32_t profile, uint32_t when_full, uint32_t stamp, uint8_t *log, size_t bytes,
                                 size_t at);
 
 /* The record of presscurlew_sample_words: that of its busy count, of so many probes. Refusals: BAD_SAMPLE, NO_ROOM. */
+PRESSCURLEW_NODISCARD
 uint32_t presscurlew_write_sample_words(uint32_t probes, const uint64_t *words, size_t count, uint32_t stamp,
                                         uint8_t *log, size_t bytes, size_t at);
 
 /* The record of presscurlew_sample_count. Refusals: BAD_SAMPLE, NO_ROOM. */
+PRESSCURLEW_NODISCARD
 uint32_t presscurlew_write_sample_count(uint32_t busy, uint32_t probes, uint32_t stamp, uint8_t *log, size_t bytes,
                                         size_t at);
 
 /* The record of presscurlew_offer. Refusals: BAD_PRIORITY, BAD_ON_TIME, NO_ROOM. */
+PRESSCURLEW_NODISCARD
 uint32_t presscurlew_write_offer(uint32_t id, uint32_t priority, uint32_t ontime, uint32_t lifetime, uint32_t stamp,
                                  uint8_t *log, size_t bytes, size_t at);
 
 /* The record of presscurlew_poll. Refusals: NO_ROOM. */
+PRESSCURLEW_NODISCARD
 uint32_t presscurlew_write_poll(uint32_t stamp, uint8_t *log, size_t bytes, size_t at);
 
 /*
@@ -663,6 +710,7 @@ typedef struct presscurlew_wait_answer {
  *
  * Refusals: 1 if profile is not 1 or 2; 4 if load is above 1,000,000.
  */
+PRESSCURLEW_NODISCARD
 presscurlew_level_answer presscurlew_wanted_level(uint32_t profile, uint32_t load);
 
 /*
@@ -671,6 +719,7 @@ presscurlew_level_answer presscurlew_wanted_level(uint32_t profile, uint32_t loa
  *
  * Refusals: 1 if profile is not 1 or 2; 9 if level is above 4; 4 if load is above 1,000,000.
  */
+PRESSCURLEW_NODISCARD
 presscurlew_level_answer presscurlew_level_step(uint32_t profile, uint32_t load, uint32_t level);
 
 /*
@@ -684,6 +733,7 @@ presscurlew_level_answer presscurlew_level_step(uint32_t profile, uint32_t load,
  *
  * Refusals: 9 if duty is not 600,000 to 30,000,000; 4 if any of the three loads is above 1,000,000.
  */
+PRESSCURLEW_NODISCARD
 presscurlew_duty_answer presscurlew_duty_update(uint32_t duty, uint32_t smoothed, uint32_t kept, uint32_t new_load);
 
 /*
@@ -710,6 +760,7 @@ presscurlew_duty_answer presscurlew_duty_update(uint32_t duty, uint32_t smoothed
  * Refusals: 1 if profile is not 1 to 4; 9 if level is above 4, or duty is not 600,000 to 30,000,000; 4 if load is above
  * 1,000,000; 6 if the profile does not allow the on-time.
  */
+PRESSCURLEW_NODISCARD
 presscurlew_wait_answer presscurlew_wait(uint32_t profile, uint32_t level, uint32_t duty, uint32_t ontime,
                                          uint32_t load);
 
@@ -748,6 +799,7 @@ typedef struct presscurlew_float_answer {
  * Refusals: 14 if smoothed, kept or new_load does not compare as 0.0 to 1.0, or duty not as 0.0006 to 0.03.
  * Not-a-number never does; negative zero compares as 0.0, and goes through as it is.
  */
+PRESSCURLEW_NODISCARD
 presscurlew_float_answer presscurlew_float_update(double duty, double smoothed, double kept, double new_load);
 
 /*
@@ -769,63 +821,51 @@ PRESSCURLEW_FIELD(packet, priority, 4);
 PRESSCURLEW_FIELD(packet, ontime, 8);
 PRESSCURLEW_FIELD(packet, lifetime, 12);
 PRESSCURLEW_FIELD(packet, arrival, 16);
-PRESSCURLEW_SIZE(queue, 128);
+PRESSCURLEW_SIZE(waiting, 12);
+PRESSCURLEW_FIELD(waiting, id, 0);
+PRESSCURLEW_FIELD(waiting, ontime, 4);
+PRESSCURLEW_FIELD(waiting, lifetime, 8);
+PRESSCURLEW_SIZE(queue, 64);
 PRESSCURLEW_FIELD(queue, len, 0);
-PRESSCURLEW_FIELD(queue, slots, 8);
-PRESSCURLEW_SIZE(ledger, 168);
-PRESSCURLEW_FIELD(ledger, len, 0);
-PRESSCURLEW_FIELD(ledger, slots, 8);
-PRESSCURLEW_SIZE(levels, 80);
-PRESSCURLEW_FIELD(levels, len, 0);
-PRESSCURLEW_FIELD(levels, wait, 8);
-PRESSCURLEW_FIELD(levels, above, 12);
-PRESSCURLEW_FIELD(levels, waits, 44);
-PRESSCURLEW_SIZE(loads, 208);
-PRESSCURLEW_FIELD(loads, len, 0);
-PRESSCURLEW_FIELD(loads, slots, 8);
-PRESSCURLEW_SIZE(rows, 376);
-PRESSCURLEW_FIELD(rows, ledger, 0);
-PRESSCURLEW_FIELD(rows, loads, 168);
-PRESSCURLEW_SIZE(clock, 16);
-PRESSCURLEW_FIELD(clock, time, 0);
-PRESSCURLEW_FIELD(clock, stamp, 8);
-PRESSCURLEW_SIZE(last, 16);
-PRESSCURLEW_FIELD(last, at, 0);
-PRESSCURLEW_FIELD(last, ontime, 8);
-PRESSCURLEW_FIELD(last, admitted, 12);
-PRESSCURLEW_SIZE(counts, 32);
-PRESSCURLEW_FIELD(counts, accepted, 0);
-PRESSCURLEW_FIELD(counts, sent, 8);
-PRESSCURLEW_FIELD(counts, expired, 16);
-PRESSCURLEW_FIELD(counts, displaced, 24);
-PRESSCURLEW_SIZE(tuning, 24);
-PRESSCURLEW_FIELD(tuning, level, 0);
-PRESSCURLEW_FIELD(tuning, duty, 4);
-PRESSCURLEW_FIELD(tuning, smoothed, 8);
-PRESSCURLEW_FIELD(tuning, kept, 12);
-PRESSCURLEW_FIELD(tuning, pairing, 16);
-PRESSCURLEW_FIELD(tuning, latest, 20);
-PRESSCURLEW_SIZE(state, 1072);
-PRESSCURLEW_FIELD(state, queues, 0);
-PRESSCURLEW_FIELD(state, levels, 512);
-PRESSCURLEW_FIELD(state, rows, 592);
-PRESSCURLEW_FIELD(state, clock, 968);
-PRESSCURLEW_FIELD(state, last, 984);
-PRESSCURLEW_FIELD(state, counts, 1000);
-PRESSCURLEW_FIELD(state, tuning, 1032);
-PRESSCURLEW_FIELD(state, profile, 1056);
-PRESSCURLEW_FIELD(state, oldway, 1060);
-PRESSCURLEW_FIELD(state, live, 1064);
+PRESSCURLEW_FIELD(queue, packets, 4);
+PRESSCURLEW_SIZE(levels, 72);
+PRESSCURLEW_FIELD(levels, count, 0);
+PRESSCURLEW_FIELD(levels, base_wait, 4);
+PRESSCURLEW_FIELD(levels, thresholds, 8);
+PRESSCURLEW_FIELD(levels, waits, 40);
+PRESSCURLEW_SIZE(gate, 952);
+PRESSCURLEW_FIELD(gate, time, 0);
+PRESSCURLEW_FIELD(gate, last_at, 8);
+PRESSCURLEW_FIELD(gate, accepted, 16);
+PRESSCURLEW_FIELD(gate, sent, 24);
+PRESSCURLEW_FIELD(gate, expired, 32);
+PRESSCURLEW_FIELD(gate, displaced, 40);
+PRESSCURLEW_FIELD(gate, arrivals, 48);
+PRESSCURLEW_FIELD(gate, stamp, 208);
+PRESSCURLEW_FIELD(gate, last_ontime, 212);
+PRESSCURLEW_FIELD(gate, admitted, 216);
+PRESSCURLEW_FIELD(gate, level, 220);
+PRESSCURLEW_FIELD(gate, duty, 224);
+PRESSCURLEW_FIELD(gate, smoothed, 228);
+PRESSCURLEW_FIELD(gate, kept, 232);
+PRESSCURLEW_FIELD(gate, pairing, 236);
+PRESSCURLEW_FIELD(gate, latest, 240);
+PRESSCURLEW_FIELD(gate, admissions, 244);
+PRESSCURLEW_FIELD(gate, load_count, 248);
+PRESSCURLEW_FIELD(gate, profile, 252);
+PRESSCURLEW_FIELD(gate, when_full, 256);
+PRESSCURLEW_FIELD(gate, live, 260);
+PRESSCURLEW_FIELD(gate, level_count, 264);
+PRESSCURLEW_FIELD(gate, base_wait, 268);
+PRESSCURLEW_FIELD(gate, queues, 272);
+PRESSCURLEW_FIELD(gate, air, 528);
+PRESSCURLEW_FIELD(gate, loads, 688);
+PRESSCURLEW_FIELD(gate, thresholds, 888);
+PRESSCURLEW_FIELD(gate, waits, 920);
 PRESSCURLEW_SIZE(reply, 40);
 PRESSCURLEW_FIELD(reply, packet, 0);
 PRESSCURLEW_FIELD(reply, number, 24);
 PRESSCURLEW_FIELD(reply, kind, 32);
-PRESSCURLEW_SIZE(turn, 1112);
-PRESSCURLEW_FIELD(turn, state, 0);
-PRESSCURLEW_FIELD(turn, reply, 1072);
-PRESSCURLEW_SIZE(burst_turn, 1080);
-PRESSCURLEW_FIELD(burst_turn, state, 0);
-PRESSCURLEW_FIELD(burst_turn, number, 1072);
 PRESSCURLEW_SIZE(level_answer, 8);
 PRESSCURLEW_FIELD(level_answer, refusal, 0);
 PRESSCURLEW_FIELD(level_answer, level, 4);

@@ -15,7 +15,7 @@
 #include "presscurlew.h"
 
 /* A leaf may use so many bytes below the stack pointer. */
-enum { RED_ZONE = 128, CALLS = 16 };
+enum { RED_ZONE = 128, CALLS = 20 };
 
 static struct {
     uintptr_t entry, back, top, low;
@@ -63,13 +63,17 @@ static void note(const char *name) {
     found[i].stack = stack > found[i].stack ? stack : found[i].stack;
 }
 
-/* Makes a call and watches it: WATCHED(turn, presscurlew_poll, state, stamp). */
+/*
+ * Makes a call and watches it: WATCHED(reply, presscurlew_poll, &gate, stamp). It goes by a pointer, so that what the
+ * header has of it is not inlined but called and counted.
+ */
 #define WATCHED(result, call, ...)                                                                                     \
     do {                                                                                                               \
-        watch.entry = (uintptr_t)(call);                                                                               \
+        __typeof__(call) *volatile callee = (call);                                                                    \
+        watch.entry = (uintptr_t)callee;                                                                               \
         watch.steps = 0;                                                                                               \
         STEP_ON();                                                                                                     \
-        (result) = (call)(__VA_ARGS__);                                                                                \
+        (result) = callee(__VA_ARGS__);                                                                                \
         STEP_OFF();                                                                                                    \
         note(#call);                                                                                                   \
     } while (0)
@@ -103,45 +107,59 @@ static const habit habits[] = {
     {500, 90000, 3, 500, 40000},     /* few, and short-lived */
 };
 
-static presscurlew_state sampled(presscurlew_state state, uint32_t busy, uint32_t stamp) {
-    presscurlew_turn turn;
+/* Makes a call that is not watched. */
+static void take(presscurlew_reply reply) {
+    if (reply.number == PRESSCURLEW_NO_STATE)
+        abort(); /* there is no such gate here */
+}
+
+static void sample(presscurlew_gate *gate, uint32_t busy, uint32_t stamp) {
+    presscurlew_reply reply;
     for (size_t i = 0; i < PRESSCURLEW_MOST_WORDS; i++)
         words[i] = below(1000) < busy ? UINT64_MAX : 0;
     words[PRESSCURLEW_MOST_WORDS - 1] &= (UINT64_C(1) << PRESSCURLEW_MOST_PROBES % 64) - 1;
-    WATCHED(turn, presscurlew_sample_words, state, PRESSCURLEW_MOST_PROBES, words, PRESSCURLEW_MOST_WORDS, stamp);
-    WATCHED(turn, presscurlew_sample_count, turn.state, busy * 12, PRESSCURLEW_MOST_PROBES, stamp);
-    return turn.state;
+    WATCHED(reply, presscurlew_sample_words, gate, PRESSCURLEW_MOST_PROBES, words, PRESSCURLEW_MOST_WORDS, stamp);
+    take(reply);
+    WATCHED(reply, presscurlew_sample_count, gate, busy * 12, PRESSCURLEW_MOST_PROBES, stamp);
+    take(reply);
 }
 
-static presscurlew_state burst(presscurlew_state state, const habit *host, uint32_t stamp) {
-    presscurlew_burst_turn turn;
+static void burst(presscurlew_gate *gate, const habit *host, uint32_t stamp) {
+    uint32_t number;
     for (uint32_t i = 0; i < 20; i++)
         presscurlew_put_offer(records + i * PRESSCURLEW_RECORD_BYTES, i, i % 4, host->ontime, host->lifetime, stamp);
-    WATCHED(turn, presscurlew_burst, state, records, sizeof records, answers, sizeof answers);
-    return turn.state;
+    WATCHED(number, presscurlew_burst, gate, records, sizeof records, answers, sizeof answers);
+    if (number != 0)
+        abort();
 }
 
 /* A gate, and a host of this habit, for 60 polls; every tenth round is watched. */
 static void walk(uint32_t profile, uint32_t when_full, const habit *host) {
-    presscurlew_turn turn;
-    uint32_t stamp = below(UINT32_MAX);
-    WATCHED(turn, presscurlew_make, profile, when_full, list, stamp);
+    presscurlew_gate gate;
+    presscurlew_reply reply;
+    uint32_t stamp = below(UINT32_MAX), sound;
+    WATCHED(reply, presscurlew_make, &gate, profile, when_full, &list, stamp);
     for (int i = 0; i < 40 && host->busy < 500; i++) /* profile 3 gets to its greatest duty */
-        turn = presscurlew_sample_count(turn.state, 0, 1000, stamp);
+        take(presscurlew_sample_count(&gate, 0, 1000, stamp));
     for (int round = 1; round <= 60; round++) {
         stamp += host->between;
         for (uint32_t i = below(host->offers + 1); i > 0; i--)
-            turn = presscurlew_offer(turn.state, i, below(4), host->ontime, host->lifetime, stamp);
+            take(presscurlew_offer(&gate, i, below(4), host->ontime, host->lifetime, stamp));
         if (round % 10 != 0) {
-            turn = presscurlew_poll(turn.state, stamp);
+            take(presscurlew_poll(&gate, stamp));
             continue;
         }
-        WATCHED(turn, presscurlew_offer, turn.state, 0, below(4), host->ontime, host->lifetime, stamp);
-        WATCHED(turn, presscurlew_poll, turn.state, stamp);
+        WATCHED(reply, presscurlew_offer, &gate, 0, below(4), host->ontime, host->lifetime, stamp);
+        take(reply);
+        WATCHED(reply, presscurlew_poll, &gate, stamp);
+        take(reply);
         if (round % 30 != 0)
             continue;
-        turn.state = sampled(turn.state, host->busy, stamp);
-        turn.state = burst(turn.state, host, stamp);
+        WATCHED(sound, presscurlew_is_sound, &gate);
+        if (sound == 0)
+            abort();
+        sample(&gate, host->busy, stamp);
+        burst(&gate, host, stamp);
     }
 }
 
@@ -151,22 +169,29 @@ static void walk(uint32_t profile, uint32_t when_full, const habit *host) {
  */
 static void crowd(uint32_t profile, unsigned expired) {
     uint32_t stamp = 0;
-    presscurlew_turn turn = presscurlew_make(profile, PRESSCURLEW_DROP_OLDEST, list, stamp);
+    presscurlew_gate gate, full;
+    presscurlew_reply reply;
+    take(presscurlew_make(&gate, profile, PRESSCURLEW_DROP_OLDEST, &list, stamp));
     for (int i = 0; i < 200; i++)
-        turn = presscurlew_sample_count(turn.state, 0, 1000, stamp);
+        take(presscurlew_sample_count(&gate, 0, 1000, stamp));
     for (uint32_t i = 0; i < 40; i++, stamp += 25001) {
-        turn = presscurlew_offer(turn.state, i, 0, 1, 1000, stamp);
-        turn = presscurlew_poll(turn.state, stamp);
+        take(presscurlew_offer(&gate, i, 0, 1, 1000, stamp));
+        take(presscurlew_poll(&gate, stamp));
     }
     for (uint32_t i = 0; i < 20; i++)
-        turn = presscurlew_offer(turn.state, i, i % 4, 400, expired >> i / 4 & 1 ? 1000 : 60000000, stamp - 24000);
-    presscurlew_state full = turn.state;
-    WATCHED(turn, presscurlew_poll, full, stamp);
-    WATCHED(turn, presscurlew_offer, full, 20, 3, 400, 1000, stamp);
+        take(presscurlew_offer(&gate, i, i % 4, 400, expired >> i / 4 & 1 ? 1000 : 60000000, stamp - 24000));
+    full = gate;
+    WATCHED(reply, presscurlew_poll, &gate, stamp);
+    take(reply);
+    gate = full;
+    WATCHED(reply, presscurlew_offer, &gate, 20, 3, 400, 1000, stamp);
+    take(reply);
     if (expired % 8 != 2)
         return;
-    sampled(full, 900, stamp);
-    burst(full, &habits[0], stamp);
+    gate = full;
+    sample(&gate, 900, stamp);
+    gate = full;
+    burst(&gate, &habits[0], stamp);
 }
 
 static void records_and_rules(uint32_t profile) {
@@ -176,6 +201,7 @@ static void records_and_rules(uint32_t profile) {
     presscurlew_float_answer update;
     uint32_t number;
     uint8_t *log = records;
+    WATCHED(number, presscurlew_busy, PRESSCURLEW_MOST_PROBES, words, PRESSCURLEW_MOST_WORDS);
     WATCHED(number, presscurlew_write_make, profile, 1, below(UINT32_MAX), log, sizeof records, 16);
     WATCHED(number, presscurlew_write_sample_words, PRESSCURLEW_MOST_PROBES, words, PRESSCURLEW_MOST_WORDS, 1, log, 16,
             0);

@@ -12,35 +12,42 @@
 
 enum { PROBES = PRESSCURLEW_MOST_PROBES, ONTIME = 2000, APART_US = 2100000 };
 
-/* Offers a warning, and polls. */
-static presscurlew_turn warn(presscurlew_state state, uint32_t now) {
-    presscurlew_turn turn = presscurlew_offer(state, now, 0, ONTIME, 60000000, now);
+/* Whether a call was taken; this host says so where one is not. */
+static int taken(presscurlew_reply reply) {
+    if (reply.kind == PRESSCURLEW_REFUSED)
+        printf("      refused: %s\n", presscurlew_refusal_name(reply.number));
+    return reply.kind == PRESSCURLEW_TAKEN;
+}
 
-    return presscurlew_poll(turn.state, now);
+/* Offers a warning, and polls. */
+static presscurlew_reply warn(presscurlew_gate *gate, uint32_t now) {
+    presscurlew_reply offered = presscurlew_offer(gate, now, 0, ONTIME, 60000000, now);
+
+    return taken(offered) ? presscurlew_poll(gate, now) : offered;
 }
 
 /* Samples, and sends two warnings, each as soon as it may go. */
-static presscurlew_state cycle(presscurlew_state state, uint32_t busy, uint32_t now) {
-    state = presscurlew_sample_count(state, busy, PROBES, now).state;
-    uint32_t load = state.tuning.latest;
-    presscurlew_turn first = warn(state, now), second = warn(first.state, now);
-    uint32_t closed = (uint32_t)second.reply.number;
-    presscurlew_turn before = presscurlew_poll(second.state, now + closed - 1);
-    presscurlew_turn after = presscurlew_poll(before.state, now + closed);
+static void cycle(presscurlew_gate *gate, uint32_t busy, uint32_t now) {
+    int sampled = taken(presscurlew_sample_count(gate, busy, PROBES, now));
+    presscurlew_reply first = warn(gate, now), second = warn(gate, now);
+    uint32_t load = gate->latest, closed = (uint32_t)second.number;
+    presscurlew_reply before = presscurlew_poll(gate, now + closed - 1);
+    presscurlew_reply after = presscurlew_poll(gate, now + closed);
 
     printf("%5" PRIu32 " busy, load %7" PRIu32 ": closed for %7" PRIu32 " us, ", busy, load, closed);
     printf("wait %7" PRIu32 "\n", presscurlew_wait(4, 0, 600000, ONTIME, load).wait);
-    if (first.reply.kind != PRESSCURLEW_SENT || before.reply.number != 1 || after.reply.kind != PRESSCURLEW_SENT)
+    if (!sampled || first.kind != PRESSCURLEW_SENT || before.number != 1 || after.kind != PRESSCURLEW_SENT)
         puts("      but not so");
-    return after.state;
 }
 
 int main(void) {
     static const uint32_t busy[] = {0, 7750, 7751, 7900, 8125, 8750, 12500, 7750};
-    presscurlew_state state = presscurlew_make(4, PRESSCURLEW_DROP_OLDEST, presscurlew_no_list(), 0).state;
+    static presscurlew_gate gate;
 
+    if (presscurlew_make(&gate, 4, PRESSCURLEW_DROP_OLDEST, NULL, 0).kind != PRESSCURLEW_READY)
+        return 1;
     for (uint32_t i = 0; i < sizeof busy / sizeof busy[0]; i++)
-        state = cycle(state, busy[i], i * APART_US);
-    printf("%" PRIu64 " warnings sent\n", state.counts.sent);
+        cycle(&gate, busy[i], i * APART_US);
+    printf("%" PRIu64 " warnings sent\n", gate.sent);
     return 0;
 }

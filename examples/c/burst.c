@@ -1,6 +1,6 @@
 /*
- * A burst beside the single calls: the same answers and the same state, in one call. Then what a burst as a whole can
- * be refused for, what a state that is not sound does to it, and a queue that gets full.
+ * A burst beside the single calls: the same answers and the same gate, in one call. Then what a burst as a whole can
+ * be refused for, what a gate that is not sound does to it, and a queue that gets full.
  */
 #include <inttypes.h>
 #include <stdio.h>
@@ -44,71 +44,71 @@ static unsigned number(const presscurlew_reply *reply) {
     return reply->kind == PRESSCURLEW_REFUSED ? (unsigned)reply->number : 0;
 }
 
-/* Whether two states are alike in what is shown here. */
-static int alike(const presscurlew_state *a, const presscurlew_state *b) {
-    return a->clock.time == b->clock.time && a->clock.stamp == b->clock.stamp &&
-           memcmp(&a->counts, &b->counts, sizeof a->counts) == 0 && memcmp(a->queues, b->queues, sizeof a->queues) == 0;
-}
+/* Whether two gates are alike. They have no padding. */
+static int alike(const presscurlew_gate *a, const presscurlew_gate *b) { return memcmp(a, b, sizeof *a) == 0; }
 
-static void beside_single_calls(presscurlew_state fresh) {
-    presscurlew_state state = fresh;
+static void beside_single_calls(const presscurlew_gate *fresh) {
+    presscurlew_gate together = *fresh, alone = *fresh;
     uint8_t answers[OFFERS];
-    presscurlew_burst_turn turn = presscurlew_burst(fresh, records[0], sizeof records, answers, sizeof answers);
 
-    printf("a burst of %d offers: %" PRIu32 "\n", OFFERS, turn.number);
+    printf("a burst of %d offers: %" PRIu32 "\n", OFFERS,
+           presscurlew_burst(&together, records[0], sizeof records, answers, sizeof answers));
     for (unsigned i = 0; i < OFFERS; i++) {
         const offered *o = &offers[i];
-        presscurlew_turn single = presscurlew_offer(state, o->id, o->priority, o->ontime, o->lifetime, o->stamp);
-        state = single.state;
-        printf("  id %10" PRIu32 ": %2u, by a single call %2u\n", o->id, answers[i], number(&single.reply));
+        presscurlew_reply single = presscurlew_offer(&alone, o->id, o->priority, o->ontime, o->lifetime, o->stamp);
+        printf("  id %10" PRIu32 ": %2u, by a single call %2u\n", o->id, answers[i], number(&single));
     }
-    printf("  %" PRIu64 " accepted; the states are %s\n", turn.state.counts.accepted,
-           alike(&turn.state, &state) ? "the same" : "not the same");
+    printf("  %" PRIu64 " accepted; the states are %s\n", together.accepted,
+           alike(&together, &alone) ? "the same" : "not the same");
 }
 
-/* A burst of so many bytes with so many answer bytes. */
-static void show(const char *what, presscurlew_state state, size_t bytes, size_t room) {
+/* A burst of so many bytes with so many answer bytes, on a copy of a gate. */
+static void show(const char *what, const presscurlew_gate *given, size_t bytes, size_t room) {
+    presscurlew_gate gate = *given;
     uint8_t answers[OFFERS];
 
     memset(answers, 255, sizeof answers);
-    presscurlew_burst_turn turn = presscurlew_burst(state, records[0], bytes, answers, room);
-    printf("%s: %" PRIu32 ", answers", what, turn.number);
+    printf("%s: %" PRIu32 ", answers", what, presscurlew_burst(&gate, records[0], bytes, answers, room));
     for (unsigned i = 0; i < 3; i++)
         printf(" %u", answers[i]);
-    printf(", time %" PRIu64 "\n", turn.state.clock.time);
+    printf(", time %" PRIu64 "\n", gate.time);
 }
 
 /* Six of one priority: the last finds five waiting, and the gate does as it was made. */
 static void six(const char *what, uint32_t when_full) {
+    presscurlew_gate gate;
     uint8_t warnings[6][PRESSCURLEW_RECORD_BYTES], answers[6];
 
     for (uint32_t i = 0; i < 6; i++)
         presscurlew_put_offer(warnings[i], i + 1, 0, 600, 1000000, 0);
-    presscurlew_state state = presscurlew_make(1, when_full, presscurlew_no_list(), 0).state;
-    state = presscurlew_burst(state, warnings[0], sizeof warnings, answers, sizeof answers).state;
+    if (presscurlew_make(&gate, 1, when_full, NULL, 0).kind != PRESSCURLEW_READY ||
+        presscurlew_burst(&gate, warnings[0], sizeof warnings, answers, sizeof answers) != 0)
+        return;
     printf("%s: the sixth gets %u, there wait", what, answers[5]);
     for (unsigned i = 0; i < 5; i++)
-        printf(" %" PRIu32, state.queues[0].slots[i].id);
-    printf("; %" PRIu64 " displaced\n", state.counts.displaced);
+        printf(" %" PRIu32, gate.queues[0].packets[i].id);
+    printf("; %" PRIu64 " displaced\n", gate.displaced);
 }
 
 int main(void) {
-    presscurlew_state fresh = presscurlew_make(1, PRESSCURLEW_DROP_OLDEST, presscurlew_no_list(), 0).state;
-    presscurlew_state bent = fresh;
+    presscurlew_gate fresh;
 
+    if (presscurlew_make(&fresh, 1, PRESSCURLEW_DROP_OLDEST, NULL, 0).kind != PRESSCURLEW_READY)
+        return 1;
+    presscurlew_gate bent = fresh;
+    bent.level = 5;
     put_records();
-    beside_single_calls(fresh);
-    bent.tuning.level = 5;
+    beside_single_calls(&fresh);
     puts("255 stands for a byte that was not written");
-    show("two of the records", fresh, 32, 3);
-    show("no records", fresh, 0, 3);
-    show("torn, and no room", fresh, 47, 1);
-    show("no room", fresh, 48, 2);
-    show("not sound", bent, 48, 3);
-    show("not sound, no room", bent, 48, 2);
+    show("two of the records", &fresh, 32, 3);
+    show("no records", &fresh, 0, 3);
+    show("torn, and no room", &fresh, 47, 1);
+    show("no room", &fresh, 48, 2);
+    show("not sound", &bent, 48, 3);
+    show("not sound, no room", &bent, 48, 2);
     records[1][0] = 3;
-    show("the second a poll", fresh, 48, 3);
-    show("the same, not sound", bent, 48, 3);
+    show("the second a poll", &fresh, 48, 3);
+    show("the same, not sound", &bent, 48, 3);
     six("drop the oldest", PRESSCURLEW_DROP_OLDEST);
     six("refuse the new", PRESSCURLEW_REFUSE_NEW);
     return 0;

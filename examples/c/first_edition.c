@@ -25,44 +25,49 @@ static uint32_t busy_in(uint32_t second) {
     return busy[second];
 }
 
+/* No call of this host is refused; it would say so. */
+static void take(presscurlew_reply reply) {
+    if (reply.kind == PRESSCURLEW_REFUSED)
+        printf("refused: %s\n", presscurlew_refusal_name(reply.number));
+}
+
 /* A second of 20 steps: a sample in each other one, a warning offered and polled for in each. */
-static presscurlew_state play(presscurlew_state state, uint32_t second) {
+static void play(presscurlew_gate *gate, uint32_t second) {
     uint32_t start = second * STEPS * STEP_US, sent = 0;
 
     for (uint32_t step = 0; step < STEPS; step++) {
         uint32_t now = start + step * STEP_US;
         if (step % 2 == 0)
-            state = presscurlew_sample_count(state, busy_in(second), PROBES, now).state;
-        state = presscurlew_offer(state, now, 0, ONTIME, LIFETIME, now).state;
-        presscurlew_turn turn = presscurlew_poll(state, now);
-        state = turn.state;
-        sent += turn.reply.kind == PRESSCURLEW_SENT;
+            take(presscurlew_sample_count(gate, busy_in(second), PROBES, now));
+        take(presscurlew_offer(gate, now, 0, ONTIME, LIFETIME, now));
+        sent += presscurlew_poll(gate, now).kind == PRESSCURLEW_SENT;
     }
-    uint32_t level = state.tuning.level;
-    uint32_t wait = level == 0 ? state.levels.wait : state.levels.waits[level - 1];
+    uint32_t level = gate->level;
+    uint32_t wait = level == 0 ? gate->base_wait : gate->waits[level - 1];
     printf("%2" PRIu32 " s: load %2" PRIu32 " %%, level %" PRIu32 ", closed for %7" PRIu32 " us, %2" PRIu32 " sent\n",
            second, busy_in(second) / 10, level, ONTIME + wait, sent);
-    return state;
 }
 
 /* A list that breaks a rule makes no gate. */
-static void refuse(const char *why, presscurlew_levels bad) {
-    presscurlew_turn turn = presscurlew_make(5, PRESSCURLEW_DROP_OLDEST, bad, 0);
+static void refuse(const char *why, const presscurlew_levels *bad) {
+    presscurlew_gate gate;
+    presscurlew_reply reply = presscurlew_make(&gate, 5, PRESSCURLEW_DROP_OLDEST, bad, 0);
 
-    printf("%s: %s\n", why, presscurlew_refusal_name(turn.reply.number));
+    printf("%s: %s\n", why, presscurlew_refusal_name(reply.number));
 }
 
 int main(void) {
-    presscurlew_state state = presscurlew_make(5, PRESSCURLEW_DROP_OLDEST, list, 0).state;
+    static presscurlew_gate gate;
     presscurlew_levels equal = list, hasty = list;
 
+    take(presscurlew_make(&gate, 5, PRESSCURLEW_DROP_OLDEST, &list, 0));
     for (uint32_t second = 0; second < 15; second++)
-        state = play(state, second);
-    printf("%" PRIu64 " loads held, %" PRIu64 " warnings sent\n", state.rows.loads.len, state.counts.sent);
-    equal.above[1] = equal.above[0];
-    refuse("two thresholds alike", equal);
+        play(&gate, second);
+    printf("%" PRIu32 " loads held, %" PRIu64 " warnings sent\n", gate.load_count, gate.sent);
+    equal.thresholds[1] = equal.thresholds[0];
+    refuse("two thresholds alike", &equal);
     hasty.waits[2] = 39999;
-    refuse("a wait of 39,999 us", hasty);
-    refuse("no levels", presscurlew_no_list());
+    refuse("a wait of 39,999 us", &hasty);
+    refuse("no levels", NULL);
     return 0;
 }

@@ -7,7 +7,7 @@
 #include "presscurlew.h"
 
 #define SIZE(name) printf(#name " %zu bytes\n", sizeof(presscurlew_##name))
-#define FIELD(name, field) printf("  %-9s at %4zu\n", #field, offsetof(presscurlew_##name, field))
+#define FIELD(name, field) printf("  %-11s at %4zu\n", #field, offsetof(presscurlew_##name, field))
 
 static void parts(void) {
     SIZE(packet);
@@ -16,70 +16,58 @@ static void parts(void) {
     FIELD(packet, ontime);
     FIELD(packet, lifetime);
     FIELD(packet, arrival);
+    SIZE(waiting);
+    FIELD(waiting, id);
+    FIELD(waiting, ontime);
+    FIELD(waiting, lifetime);
     SIZE(queue);
     FIELD(queue, len);
-    FIELD(queue, slots);
-    SIZE(ledger);
-    FIELD(ledger, len);
-    FIELD(ledger, slots);
-    SIZE(loads);
-    FIELD(loads, len);
-    FIELD(loads, slots);
+    FIELD(queue, packets);
     SIZE(levels);
-    FIELD(levels, len);
-    FIELD(levels, wait);
-    FIELD(levels, above);
+    FIELD(levels, count);
+    FIELD(levels, base_wait);
+    FIELD(levels, thresholds);
     FIELD(levels, waits);
-    SIZE(rows);
-    FIELD(rows, ledger);
-    FIELD(rows, loads);
-    SIZE(clock);
-    FIELD(clock, time);
-    FIELD(clock, stamp);
-    SIZE(last);
-    FIELD(last, at);
-    FIELD(last, ontime);
-    FIELD(last, admitted);
-    SIZE(counts);
-    FIELD(counts, accepted);
-    FIELD(counts, sent);
-    FIELD(counts, expired);
-    FIELD(counts, displaced);
-    SIZE(tuning);
-    FIELD(tuning, level);
-    FIELD(tuning, duty);
-    FIELD(tuning, smoothed);
-    FIELD(tuning, kept);
-    FIELD(tuning, pairing);
-    FIELD(tuning, latest);
-}
-
-static void wholes(void) {
-    SIZE(state);
-    FIELD(state, queues);
-    FIELD(state, levels);
-    FIELD(state, rows);
-    FIELD(state, clock);
-    FIELD(state, last);
-    FIELD(state, counts);
-    FIELD(state, tuning);
-    FIELD(state, profile);
-    FIELD(state, oldway);
-    FIELD(state, live);
     SIZE(reply);
     FIELD(reply, packet);
     FIELD(reply, number);
     FIELD(reply, kind);
-    SIZE(turn);
-    FIELD(turn, state);
-    FIELD(turn, reply);
-    SIZE(burst_turn);
-    FIELD(burst_turn, state);
-    FIELD(burst_turn, number);
+}
+
+static void whole(void) {
+    SIZE(gate);
+    FIELD(gate, time);
+    FIELD(gate, last_at);
+    FIELD(gate, accepted);
+    FIELD(gate, sent);
+    FIELD(gate, expired);
+    FIELD(gate, displaced);
+    FIELD(gate, arrivals);
+    FIELD(gate, stamp);
+    FIELD(gate, last_ontime);
+    FIELD(gate, admitted);
+    FIELD(gate, level);
+    FIELD(gate, duty);
+    FIELD(gate, smoothed);
+    FIELD(gate, kept);
+    FIELD(gate, pairing);
+    FIELD(gate, latest);
+    FIELD(gate, admissions);
+    FIELD(gate, load_count);
+    FIELD(gate, profile);
+    FIELD(gate, when_full);
+    FIELD(gate, live);
+    FIELD(gate, level_count);
+    FIELD(gate, base_wait);
+    FIELD(gate, queues);
+    FIELD(gate, air);
+    FIELD(gate, loads);
+    FIELD(gate, thresholds);
+    FIELD(gate, waits);
 }
 
 int main(void) {
     parts();
-    wholes();
+    whole();
     return 0;
 }

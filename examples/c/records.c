@@ -83,8 +83,8 @@ int main(void) {
     each_kind(words);
     what_fits();
     what_is_refused(words);
-    presscurlew_write_offer(ID, 3, 0x0605, LIFETIME, STAMP, fresh(), sizeof place, 1);
+    uint32_t number = presscurlew_write_offer(ID, 3, 0x0605, LIFETIME, STAMP, fresh(), sizeof place, 1);
     presscurlew_put_offer(record, ID, 3, 0x0605, LIFETIME, STAMP);
-    printf("a burst's record is %s\n", memcmp(record, place + 1, BYTES) == 0 ? "the same" : "another");
+    printf("a burst's record is %s\n", number == 0 && memcmp(record, place + 1, BYTES) == 0 ? "the same" : "another");
     return 0;
 }

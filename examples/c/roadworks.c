@@ -3,7 +3,7 @@
  * sends the map of the site in pieces, over 4 s in which the channel gets crowded for a while.
  *
  * The radio is played: its clock is `now`, which wraps on the way, and hear_channel makes up what it probes.
- * All else is what a host does: keep the state, sample, offer, poll, and wait as long as CLOSED says. What comes
+ * All else is what a host does: keep the gate, sample, offer, poll, and wait as long as CLOSED says. What comes
  * together, warnings among it, is offered together, as a burst.
  *
  * And a host stays silent for a second after it starts. What this trailer sent before it was switched off, or crashed,
@@ -49,11 +49,11 @@ enum { WARNING, STATUS, MAP };
 enum { BURST = 8 };
 
 typedef struct host {
-    presscurlew_state state; /* handed to each call, and replaced by what the call hands back */
-    uint32_t now;            /* the radio's clock */
-    uint32_t silent_until;   /* no poll before: a run before this one may have sent just now */
-    uint32_t quiet_until;    /* no use to poll before: the gate said CLOSED */
-    unsigned ready;          /* so many messages are to be offered next: */
+    presscurlew_gate gate; /* lent to each call, which changes it */
+    uint32_t now;          /* the radio's clock */
+    uint32_t silent_until; /* no poll before: a run before this one may have sent just now */
+    uint32_t quiet_until;  /* no use to poll before: the gate said CLOSED */
+    unsigned ready;        /* so many messages are to be offered next: */
     uint8_t records[BURST][PRESSCURLEW_RECORD_BYTES];
     uint32_t ids[BURST];
     uint32_t offered, refused, air_time;
@@ -69,12 +69,26 @@ static void give_up(const char *what) {
     exit(1);
 }
 
+/* This host asks for nothing that no record and no burst can have: a number that is not 0 is a fault of its own. */
+static void require(const char *what, uint32_t number) {
+    if (number == 0)
+        return;
+    fprintf(stderr, "%s: %s\n", what, presscurlew_refusal_name(number));
+    exit(1);
+}
+
 /* Records calls before they are made. Flushed, they outlive a crash of the host. */
 static void record(const host *h, const uint8_t *records, size_t count) {
     if (h->log == NULL)
         return;
     if (fwrite(records, PRESSCURLEW_RECORD_BYTES, count, h->log) != count || fflush(h->log) != 0)
         give_up("the call log");
+}
+
+/* Records one call, by what its presscurlew_write_.. has answered and written. */
+static void record_call(const host *h, uint32_t number, const uint8_t call[PRESSCURLEW_RECORD_BYTES]) {
+    require("a record", number);
+    record(h, call, 1);
 }
 
 /* Notes the answer to a call, in the words of replay. */
@@ -100,20 +114,18 @@ static void hear_channel(uint64_t words[WORDS], unsigned busy) {
 }
 
 static void sample(host *h, unsigned busy) {
-    uint32_t level = h->state.tuning.level;
+    uint32_t level = h->gate.level;
     uint64_t words[WORDS];
     uint8_t call[PRESSCURLEW_RECORD_BYTES];
 
     hear_channel(words, busy);
-    presscurlew_write_sample_words(PROBES, words, WORDS, h->now, call, sizeof call, 0);
-    record(h, call, 1);
-    presscurlew_turn turn = presscurlew_sample_words(h->state, PROBES, words, WORDS, h->now);
-    h->state = turn.state;
-    note(h, &turn.reply);
+    record_call(h, presscurlew_write_sample_words(PROBES, words, WORDS, h->now, call, sizeof call, 0), call);
+    presscurlew_reply reply = presscurlew_sample_words(&h->gate, PROBES, words, WORDS, h->now);
+    note(h, &reply);
     /* The wait may be another one now, so the next poll is not put off any longer. */
     h->quiet_until = h->now;
-    if (h->state.tuning.level != level)
-        printf("%5" PRIu32 " ms  level %" PRIu32 "\n", since_start_ms(h), h->state.tuning.level);
+    if (h->gate.level != level)
+        printf("%5" PRIu32 " ms  level %" PRIu32 "\n", since_start_ms(h), h->gate.level);
 }
 
 /* Makes a message ready to be offered. There is room for all that comes in a tick. */
@@ -139,9 +151,8 @@ static void offer_burst(host *h) {
 
     record(h, h->records[0], h->ready);
     /* The records are whole and each has its answer byte, so that the burst itself is not refused. */
-    presscurlew_burst_turn turn =
-        presscurlew_burst(h->state, h->records[0], h->ready * sizeof h->records[0], answers, sizeof answers);
-    h->state = turn.state;
+    require("a burst", presscurlew_burst(&h->gate, h->records[0], h->ready * sizeof h->records[0], answers,
+                                         sizeof answers));
     for (unsigned i = 0; i < h->ready; i++) {
         presscurlew_reply reply = reply_of(answers[i]);
         note(h, &reply);
@@ -156,7 +167,7 @@ static void offer_burst(host *h) {
 
 /* Puts a packet on air. */
 static void transmit(host *h, const presscurlew_packet *packet) {
-    uint64_t waited = h->state.clock.time - packet->arrival;
+    uint64_t waited = h->gate.time - packet->arrival;
 
     h->air_time += packet->ontime;
     printf("%5" PRIu32 " ms  %s %" PRIu32 " sent, it waited %" PRIu64 " ms\n", since_start_ms(h),
@@ -166,22 +177,20 @@ static void transmit(host *h, const presscurlew_packet *packet) {
 static void poll(host *h) {
     uint8_t call[PRESSCURLEW_RECORD_BYTES];
 
-    presscurlew_write_poll(h->now, call, sizeof call, 0);
-    record(h, call, 1);
-    presscurlew_turn turn = presscurlew_poll(h->state, h->now);
-    h->state = turn.state;
-    note(h, &turn.reply);
-    switch (turn.reply.kind) {
+    record_call(h, presscurlew_write_poll(h->now, call, sizeof call, 0), call);
+    presscurlew_reply reply = presscurlew_poll(&h->gate, h->now);
+    note(h, &reply);
+    switch (reply.kind) {
     case PRESSCURLEW_SENT:
-        transmit(h, &turn.reply.packet);
+        transmit(h, &reply.packet);
         break;
     case PRESSCURLEW_CLOSED:
-        h->quiet_until = h->now + (uint32_t)turn.reply.number;
+        h->quiet_until = h->now + (uint32_t)reply.number;
         break;
     case PRESSCURLEW_IDLE:
         break;
     default:
-        printf("%5" PRIu32 " ms  poll refused: %s\n", since_start_ms(h), presscurlew_refusal_name(turn.reply.number));
+        printf("%5" PRIu32 " ms  poll refused: %s\n", since_start_ms(h), presscurlew_refusal_name(reply.number));
     }
 }
 
@@ -205,22 +214,21 @@ static void tick(host *h, unsigned t) {
     h->now += TICK_US;
 }
 
-static uint64_t waiting(const presscurlew_state *state) {
-    uint64_t sum = 0;
+static uint32_t waiting(const presscurlew_gate *gate) {
+    uint32_t sum = 0;
 
     for (int priority = 0; priority < 4; priority++)
-        sum += state->queues[priority].len;
+        sum += gate->queues[priority].len;
     return sum;
 }
 
 /* What the host has counted, and what the gate has: accepted is sent, expired, displaced and waiting together. */
 static void sum_up(const host *h) {
-    const presscurlew_counts *counts = &h->state.counts;
+    const presscurlew_gate *gate = &h->gate;
 
     printf("%" PRIu32 " offered, %" PRIu32 " refused; %" PRIu32 " us on air\n", h->offered, h->refused, h->air_time);
-    printf("%" PRIu64 " accepted: %" PRIu64 " sent, %" PRIu64 " expired, ", counts->accepted, counts->sent,
-           counts->expired);
-    printf("%" PRIu64 " displaced, %" PRIu64 " waiting\n", counts->displaced, waiting(&h->state));
+    printf("%" PRIu64 " accepted: %" PRIu64 " sent, %" PRIu64 " expired, ", gate->accepted, gate->sent, gate->expired);
+    printf("%" PRIu64 " displaced, %" PRIu32 " waiting\n", gate->displaced, waiting(gate));
 }
 
 /* The file of an argument, NULL if there is none. */
@@ -242,12 +250,10 @@ static int make(host *h) {
     uint8_t call[PRESSCURLEW_RECORD_BYTES];
 
     /* The map's pieces all differ: none that was taken may be displaced, and one that finds no room is told. */
-    presscurlew_write_make(1, PRESSCURLEW_REFUSE_NEW, h->now, call, sizeof call, 0);
-    record(h, call, 1);
-    presscurlew_turn turn = presscurlew_make(1, PRESSCURLEW_REFUSE_NEW, presscurlew_no_list(), h->now);
-    h->state = turn.state;
-    note(h, &turn.reply);
-    return turn.reply.kind == PRESSCURLEW_READY;
+    record_call(h, presscurlew_write_make(1, PRESSCURLEW_REFUSE_NEW, h->now, call, sizeof call, 0), call);
+    presscurlew_reply reply = presscurlew_make(&h->gate, 1, PRESSCURLEW_REFUSE_NEW, NULL, h->now);
+    note(h, &reply);
+    return reply.kind == PRESSCURLEW_READY;
 }
 
 int main(int argc, char **argv) {
