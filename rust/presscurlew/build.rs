@@ -6,7 +6,7 @@ use std::path::{Path, PathBuf};
 use std::process::exit;
 
 /// What libpresscurlew.a gathers.
-const PARTS: [&str; 4] = ["cstack", "host", "bursts", "floats"];
+const PARTS: [&str; 4] = ["cstack", "host", "calllog", "floats"];
 
 /// The folder that the environment names, or else that of the release or the repository which this package stands in.
 fn folder() -> PathBuf {

@@ -134,7 +134,7 @@ impl Host {
     }
 
     fn level(&self) -> u32 {
-        self.gate.gate().state().tuning.level
+        self.gate.gate().state().level
     }
 
     fn sample(&mut self, busy: usize) -> Result<(), Fault> {
@@ -189,7 +189,7 @@ impl Host {
     /// Puts a packet on air.
     fn transmit(&mut self, packet: Packet) {
         self.air_time += packet.ontime;
-        let waited = self.gate.gate().state().clock.time - packet.arrival;
+        let waited = self.gate.gate().state().time - packet.arrival;
         let (name, number) = (message(packet.id).name, packet.id >> 2);
         self.tell(&format!(
             "{name} {number} sent, it waited {} ms",
@@ -257,7 +257,7 @@ impl Host {
             displaced,
         } = self.gate.gate().counts();
         let queues = self.gate.gate().state().queues.iter();
-        let waiting: u64 = queues.map(|queue| queue.len).sum();
+        let waiting: u32 = queues.map(|queue| queue.len).sum();
         println!("{accepted} accepted: {sent} sent, {expired} expired, {displaced} displaced, {waiting} waiting");
     }
 }

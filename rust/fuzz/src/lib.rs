@@ -8,9 +8,9 @@
 mod help;
 
 use help::{
-    archive_write, fresh, hold, hold_burst, hold_no_state, hold_no_state_burst, hold_write,
-    levels_of, raw, raw_if, read_state, word, Call, LogCall, ACCEPTED_MOST, EDGE_COUNTS,
-    EDGE_LIFETIMES, EDGE_ONTIMES, EDGE_PRIORITIES, EDGE_PROBES, EDGE_STEPS, TIME_END,
+    archive_write, bytes_of, fresh, hold, hold_burst, hold_no_state, hold_no_state_burst,
+    hold_write, levels_of, raw, raw_if, read_state, word, Call, LogCall, ACCEPTED_MOST,
+    EDGE_COUNTS, EDGE_LIFETIMES, EDGE_ONTIMES, EDGE_PRIORITIES, EDGE_PROBES, EDGE_STEPS, TIME_END,
 };
 use presscurlew::sys;
 use reference::levels::{Levels, Loads};
@@ -54,14 +54,11 @@ impl Input<'_> {
         }
     }
 
-    fn packet(&mut self, priority: u32, now: u64) -> Packet {
+    /// A packet, its priority left open.
+    fn packet(&mut self, now: u64) -> Packet {
         Packet {
             id: u32::from(self.byte()),
-            priority: if self.byte() == 255 {
-                self.number()
-            } else {
-                priority
-            },
+            priority: 0,
             ontime: self.of(&[1, 400, 500, 501, 1_000, 1_001, 4_000, 4_001, 0]),
             lifetime: self.of(&[60_000, 1, 1_000_000, 60_000_000, 60_000_001, 0]),
             arrival: self.time_before(now),
@@ -99,24 +96,48 @@ impl Input<'_> {
         let state = self.counted(state);
         // A time or an on-time that no word can say: the state is then one without admissions.
         let state = raw_if(&state).unwrap_or_else(|| raw(&state.with_admissions(&[])));
-        self.reworded(state)
+        let state = self.reworded(state);
+        self.bent(state)
+    }
+
+    /// The state, now and then with another number in a place of a queue, unused or not, a packet that has gone to another
+    /// queue without its arrival, or any byte of the whole another one.
+    fn bent(&mut self, mut state: sys::State) -> sys::State {
+        let (queue, place) = (usize::from(self.byte() % 4), usize::from(self.byte() % 5));
+        match self.byte() {
+            249 => state.arrivals[queue][place] = self.time_before(state.time),
+            250 => state.queues[queue].packets[place].id = self.number(),
+            251 => state.queues[queue].packets[place].ontime = self.of(&[0, 1, 500, 4_001]),
+            252 => state.queues[queue].packets[place].lifetime = self.of(&[0, 1, 60_000_001]),
+            253 => state.queues[queue].len = self.of(&[0, 1, 4, 5, 6, 1 << 16, u32::MAX]),
+            254 => {
+                let other = usize::from(self.byte() % 4);
+                state.queues.swap(queue, other);
+            }
+            255 => {
+                let mut bytes = bytes_of(&state);
+                bytes[usize::from(self.number() as u16) % size_of::<sys::State>()] = self.byte();
+                state = state_of(bytes);
+            }
+            _ => {}
+        }
+        state
     }
 
     /// The state, now and then with another word in its ledger, another length, or another time of the last admission.
     fn reworded(&mut self, mut state: sys::State) -> sys::State {
-        let ledger = &mut state.rows.ledger;
-        let place = usize::from(self.byte()) % ledger.slots.len();
+        let place = usize::from(self.byte()) % state.air.len();
         match self.byte() {
-            250 => ledger.slots[place] = self.number(),
-            251 => ledger.slots[place] ^= 1 << (self.byte() % 32),
+            250 => state.air[place] = self.number(),
+            251 => state.air[place] ^= 1 << (self.byte() % 32),
             252 => {
                 let age = self.of(&[0, 1, 24_999, 25_000, 999_999, 1_000_000]) % (1 << 20);
                 let ontime = self.of(&[0, 1, 500, 501, 1_000, 1_001, 4_000, 4_001]) % (1 << 12);
-                ledger.slots[place] = word(age, ontime);
+                state.air[place] = word(age, ontime);
             }
-            253 => ledger.len = u64::from(self.number()) << (self.byte() % 64),
-            254 => ledger.len = u64::from(self.byte() % 42),
-            255 => state.last.at = self.time_before(state.clock.time),
+            253 => state.admissions = self.number() << (self.byte() % 32),
+            254 => state.admissions = u32::from(self.byte() % 42),
+            255 => state.last_at = self.time_before(state.time),
             _ => {}
         }
         state
@@ -144,7 +165,7 @@ impl Input<'_> {
         }
         let place = usize::from(self.byte());
         match self.byte() {
-            250 => state.levels.len = u64::from(self.number()) << (self.byte() % 64),
+            250 => state.levels.len = u64::from(self.number() << (self.byte() % 32)),
             251 => state.levels.wait = self.of(&[0, 40_000]),
             252 => state.levels.above[place % 8] = self.number(),
             253 => state.levels.waits[place % 8] = self.number(),
@@ -208,8 +229,15 @@ impl Input<'_> {
             let queue = &mut state.queues[priority as usize];
             queue.len = u64::from(self.of(&[0, 1, 2, 3, 4, 5, 6]));
             for slot in 0..5 {
-                if slot < queue.len || self.byte() == 255 {
-                    queue.slots[slot as usize] = self.packet(priority, state.time);
+                // An unused place has no priority, nor has one that is all zero where too many are said to wait.
+                let waits = slot < queue.len;
+                if waits || self.byte() == 255 {
+                    let packet = self.packet(state.time);
+                    let named = waits && (queue.len <= 5 || packet != Packet::default());
+                    queue.slots[slot as usize] = Packet {
+                        priority: if named { priority } else { 0 },
+                        ..packet
+                    };
                 }
             }
         }
@@ -326,6 +354,12 @@ impl Input<'_> {
     }
 }
 
+/// The state of some bytes: any are one.
+fn state_of(bytes: [u8; size_of::<sys::State>()]) -> sys::State {
+    // SAFETY: the state is numbers of 4 and 8 bytes, which fill it.
+    unsafe { std::mem::transmute(bytes) }
+}
+
 /// A call written at a place of a log, and any record read and written back.
 fn try_write(input: &mut Input, call: &Call) {
     let call = input.log_call(call);
@@ -348,10 +382,10 @@ fn try_flags(input: &mut Input, state: &sys::State) {
     let flag = input.of(&[2, 3, 256, u32::MAX]).max(2);
     match input.byte() % 3 {
         0 => bent.live = flag,
-        1 => bent.tuning.pairing = flag,
-        _ => bent.last.admitted = flag,
+        1 => bent.pairing = flag,
+        _ => bent.admitted = flag,
     }
-    let stamp = state.clock.stamp;
+    let stamp = state.stamp;
     hold_no_state(&bent, &input.call(stamp), &"flag");
     hold_no_state_burst(&bent, stamp, &"flag");
 }
@@ -363,7 +397,7 @@ fn follow(bytes: &[u8]) {
     try_flags(&mut input, &given);
     let mut state = read_state(&given).unwrap_or_else(|| {
         // A word that says more than there was before the last admission.
-        let stamp = given.clock.stamp;
+        let stamp = given.stamp;
         hold_no_state(&given, &input.call(stamp), &"word");
         hold_no_state_burst(&given, stamp, &"word");
         fresh(1 + stamp % 5, stamp / 5 % 2, stamp)

@@ -5,30 +5,32 @@
 //! both give the same answers is proved; the tests of `presscurlew` run the two archives side by side.
 //!
 //! ```
-//! use presscurlew::sys::{self, Levels, DROP_OLDEST, SENT};
+//! use plainhost::Levels;
+//! use presscurlew::{sys, Offer};
 //!
-//! let mut gate = sys::presscurlew_make(2, DROP_OLDEST, Levels::NONE, 0);
-//! let mut plain = plainhost::presscurlew_plain_make(2, DROP_OLDEST, Levels::NONE, 0);
+//! let mut gate = sys::State::default();
+//! assert_eq!(sys::make(&mut gate, 2, sys::DROP_OLDEST, &sys::Levels::NONE, 0).kind, sys::READY);
+//! let mut plain = plainhost::presscurlew_plain_make(2, sys::DROP_OLDEST, Levels::NONE, 0);
 //! for (id, priority) in [(7, 2), (8, 1), (9, 2)] {
-//!     gate = sys::presscurlew_offer(gate.state, id, priority, 400, 60_000, 100);
+//!     let reply = sys::offer(&mut gate, Offer { id, priority, ontime: 400, lifetime: 60_000 }, 100);
 //!     plain = plainhost::presscurlew_plain_offer(plain.state, id, priority, 400, 60_000, 100);
-//!     assert_eq!(plain.reply, gate.reply);
+//!     assert_eq!(plain.reply, reply);
 //! }
 //! let waiting = plain.state.line.packets[..3].iter().map(|packet| packet.id);
 //! assert_eq!(waiting.collect::<Vec<_>>(), [7, 8, 9]);
 //!
-//! gate = sys::presscurlew_poll(gate.state, 200);
+//! let reply = sys::poll(&mut gate, 200);
 //! plain = plainhost::presscurlew_plain_poll(plain.state, 200);
-//! assert_eq!((plain.reply.kind, plain.reply.packet.id), (SENT, 8));
-//! assert_eq!(plain.reply, gate.reply);
-//! assert_eq!(plain.state.parted(), Some(gate.state));
+//! assert_eq!((plain.reply.kind, plain.reply.packet.id), (sys::SENT, 8));
+//! assert_eq!(plain.reply, reply);
+//! assert_eq!(plain.state.parted(), Some(gate));
 //! ```
 
 #![deny(missing_docs)]
 #![deny(unsafe_code)]
 
 use presscurlew::sys::{
-    self, Clock, Counts, Last, Ledger, Levels, Loads, Packet, Queue, Reply, Rows, Tuning,
+    self, Packet, Queue, Reply, Waiting, MOST_ADMISSIONS, MOST_LEVELS, MOST_LOADS, MOST_WAITING,
 };
 
 /// The most packets that wait.
@@ -77,16 +79,25 @@ impl Line {
             && unused.all(|packet| *packet == Packet::default())
     }
 
-    /// The queues that are the line's parts, if it is in order.
-    pub fn parted(&self) -> Option<[Queue; 4]> {
-        let queue = |priority| {
-            let mut queue = Queue::default();
-            let packets = of_priority(self.waiting(), priority);
-            queue.slots[..packets.len()].copy_from_slice(&packets);
-            queue.len = packets.len() as u64;
-            queue
-        };
-        self.is_in_order().then(|| [0, 1, 2, 3].map(queue))
+    /// The queues that are the line's parts, and the arrivals of what waits in them, if it is in order.
+    pub fn parted(&self) -> Option<([Queue; 4], [[u64; MOST_WAITING]; 4])> {
+        if !self.is_in_order() {
+            return None;
+        }
+        let (mut queues, mut arrivals) = ([Queue::default(); 4], [[0; MOST_WAITING]; 4]);
+        for packet in self.waiting() {
+            let priority = packet.priority as usize;
+            let queue = &mut queues[priority];
+            let place = queue.len as usize;
+            queue.packets[place] = Waiting {
+                id: packet.id,
+                ontime: packet.ontime,
+                lifetime: packet.lifetime,
+            };
+            queue.len += 1;
+            arrivals[priority][place] = packet.arrival;
+        }
+        Some((queues, arrivals))
     }
 }
 
@@ -96,6 +107,136 @@ fn of_priority(packets: &[Packet], priority: u32) -> Vec<Packet> {
     packets
         .filter(|packet| packet.priority == priority)
         .collect()
+}
+
+/// The running time, and the stamp that it was reached with.
+#[repr(C)]
+#[derive(Clone, Copy, Debug, Default, PartialEq, Eq, Hash)]
+pub struct Clock {
+    /// The running time in µs.
+    pub time: u64,
+    /// The stamp of the last call that was not refused.
+    pub stamp: u32,
+}
+
+/// The admissions of the last second, in the words of [`sys::State::air`].
+#[repr(C)]
+#[derive(Clone, Copy, Debug, PartialEq, Eq, Hash)]
+pub struct Ledger {
+    /// How many it holds, 0 to 40; the archive's lengths have 64 bits.
+    pub len: u64,
+    /// The first `len` are their words, the oldest first; the others are 0.
+    pub slots: [u32; MOST_ADMISSIONS],
+}
+
+impl Default for Ledger {
+    /// A ledger without admissions.
+    fn default() -> Ledger {
+        Ledger {
+            len: 0,
+            slots: [0; MOST_ADMISSIONS],
+        }
+    }
+}
+
+/// The loads of the last samples that were taken, in profile 5; in the state of any other profile there are none.
+#[repr(C)]
+#[derive(Clone, Copy, Debug, PartialEq, Eq, Hash)]
+pub struct Loads {
+    /// How many it holds, 0 to 50.
+    pub len: u64,
+    /// The first `len`, the oldest first, in parts per 1,000,000; the others are 0.
+    pub slots: [u32; MOST_LOADS],
+}
+
+impl Default for Loads {
+    /// No loads.
+    fn default() -> Loads {
+        Loads {
+            len: 0,
+            slots: [0; MOST_LOADS],
+        }
+    }
+}
+
+/// Profile 5's list of levels; in the state of any other profile it is [`Levels::NONE`]. [`sys::Levels`] says what a good
+/// list is.
+#[repr(C)]
+#[derive(Clone, Copy, Debug, Default, PartialEq, Eq, Hash)]
+pub struct Levels {
+    /// How many levels there are above level 0, 1 to 8.
+    pub len: u64,
+    /// The wait of level 0 in µs.
+    pub wait: u32,
+    /// The thresholds of levels 1 to `len`, as loads.
+    pub above: [u32; MOST_LEVELS],
+    /// Their waits in µs.
+    pub waits: [u32; MOST_LEVELS],
+}
+
+impl Levels {
+    /// No list, for profiles 1 to 4.
+    pub const NONE: Levels = Levels {
+        len: 0,
+        wait: 0,
+        above: [0; MOST_LEVELS],
+        waits: [0; MOST_LEVELS],
+    };
+}
+
+impl From<sys::Levels> for Levels {
+    fn from(list: sys::Levels) -> Levels {
+        Levels {
+            len: u64::from(list.count),
+            wait: list.base_wait,
+            above: list.thresholds,
+            waits: list.waits,
+        }
+    }
+}
+
+/// The last admission, however long ago. Before the first one all fields are 0.
+#[repr(C)]
+#[derive(Clone, Copy, Debug, Default, PartialEq, Eq, Hash)]
+pub struct Last {
+    /// The running time at which it was made.
+    pub at: u64,
+    /// The on-time of its packet.
+    pub ontime: u32,
+    /// 1 once something was admitted, else 0.
+    pub admitted: u32,
+}
+
+/// What was counted, as [`sys::Counts`].
+#[repr(C)]
+#[derive(Clone, Copy, Debug, Default, PartialEq, Eq, Hash)]
+pub struct Counts {
+    /// Offers accepted, at most 10^15.
+    pub accepted: u64,
+    /// Packets sent.
+    pub sent: u64,
+    /// Packets removed as expired.
+    pub expired: u64,
+    /// Packets dropped for a newer one of their priority, where 5 waited.
+    pub displaced: u64,
+}
+
+/// What samples steer. The profile, which says how, stands beside it in the state.
+#[repr(C)]
+#[derive(Clone, Copy, Debug, Default, PartialEq, Eq, Hash)]
+pub struct Tuning {
+    /// The level, 0 to 4; in profile 5 one of its list, 0 to 8.
+    pub level: u32,
+    /// The duty, in parts per 1,000,000,000.
+    pub duty: u32,
+    /// The smoothed load, in parts per 1,000,000.
+    pub smoothed: u32,
+    /// The load of the sample that is kept, 0 if none is.
+    pub kept: u32,
+    /// 1 while a sample is kept, else 0.
+    pub pairing: u32,
+    /// In profile 4 the load of the latest sample, in parts per 1,000,000; 0 before any, and in the other profiles.
+    pub latest: u32,
 }
 
 /// The state of one engine. Any values at all may stand in it: the calls refuse a state that is not sound.
@@ -128,22 +269,38 @@ pub struct State {
 
 impl State {
     /// The gate's state of the same meaning: the line is parted by priority, all else is as it is. There is none where
-    /// the line is not in order.
+    /// the line is not in order, or where a length has more than the 32 bits that the gate's lengths have.
     pub fn parted(&self) -> Option<sys::State> {
+        let (queues, arrivals) = self.line.parted()?;
         Some(sys::State {
-            queues: self.line.parted()?,
-            levels: self.levels,
-            rows: Rows {
-                ledger: self.ledger,
-                loads: self.loads,
-            },
-            clock: self.clock,
-            last: self.last,
-            counts: self.counts,
-            tuning: self.tuning,
+            time: self.clock.time,
+            last_at: self.last.at,
+            accepted: self.counts.accepted,
+            sent: self.counts.sent,
+            expired: self.counts.expired,
+            displaced: self.counts.displaced,
+            arrivals,
+            stamp: self.clock.stamp,
+            last_ontime: self.last.ontime,
+            admitted: self.last.admitted,
+            level: self.tuning.level,
+            duty: self.tuning.duty,
+            smoothed: self.tuning.smoothed,
+            kept: self.tuning.kept,
+            pairing: self.tuning.pairing,
+            latest: self.tuning.latest,
+            admissions: u32::try_from(self.ledger.len).ok()?,
+            load_count: u32::try_from(self.loads.len).ok()?,
             profile: self.profile,
-            oldway: self.oldway,
+            when_full: self.oldway,
             live: self.live,
+            level_count: u32::try_from(self.levels.len).ok()?,
+            base_wait: self.levels.wait,
+            queues,
+            air: self.ledger.slots,
+            loads: self.loads.slots,
+            thresholds: self.levels.above,
+            waits: self.levels.waits,
         })
     }
 
@@ -151,15 +308,40 @@ impl State {
     pub fn with_line(gate: &sys::State, line: Line) -> State {
         State {
             line,
-            ledger: gate.rows.ledger,
-            loads: gate.rows.loads,
-            levels: gate.levels,
-            clock: gate.clock,
-            last: gate.last,
-            counts: gate.counts,
-            tuning: gate.tuning,
+            ledger: Ledger {
+                len: u64::from(gate.admissions),
+                slots: gate.air,
+            },
+            loads: Loads {
+                len: u64::from(gate.load_count),
+                slots: gate.loads,
+            },
+            levels: gate.levels().into(),
+            clock: Clock {
+                time: gate.time,
+                stamp: gate.stamp,
+            },
+            last: Last {
+                at: gate.last_at,
+                ontime: gate.last_ontime,
+                admitted: gate.admitted,
+            },
+            counts: Counts {
+                accepted: gate.accepted,
+                sent: gate.sent,
+                expired: gate.expired,
+                displaced: gate.displaced,
+            },
+            tuning: Tuning {
+                level: gate.level,
+                duty: gate.duty,
+                smoothed: gate.smoothed,
+                kept: gate.kept,
+                pairing: gate.pairing,
+                latest: gate.latest,
+            },
             profile: gate.profile,
-            oldway: gate.oldway,
+            oldway: gate.when_full,
             live: gate.live,
         }
     }
@@ -188,7 +370,7 @@ pub struct BurstTurn {
 }
 
 /// The number of the layout that this package declares; an archive of another one must not be called.
-pub const LAYOUT: u32 = 2_074_384_591;
+pub const LAYOUT: u32 = 2_413_862_940;
 
 // Safe to call, but for those that take pointers: any numbers and any state at all are answered.
 #[allow(unsafe_code)]

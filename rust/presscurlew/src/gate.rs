@@ -1,10 +1,10 @@
 //! The gate of one radio channel: it takes samples and packets, and says when a packet may go.
 //!
 //! ```
-//! use presscurlew::{Answer, Gate, Offer, Refusal, WhenFull};
+//! use presscurlew::{Answer, Gate, Offer, Profile, Refusal, WhenFull};
 //!
 //! // The radio's 32-bit count wraps in the middle of this; the gate does not mind.
-//! let mut gate = Gate::new(2, WhenFull::DropOldest, 4_294_967_000)?;
+//! let mut gate = Gate::new(Profile::ReactiveA2, WhenFull::DropOldest, 4_294_967_000)?;
 //! gate.offer(Offer { id: 7, priority: 2, ontime: 400, lifetime: 1_000_000 }, 4_294_967_100)?;
 //! gate.offer(Offer { id: 8, priority: 1, ontime: 400, lifetime: 60_000 }, 4_294_967_100)?;
 //!
@@ -38,9 +38,9 @@ pub use crate::sys::{Counts, Level, Packet};
 
 /// The gate of one channel.
 ///
-/// It holds its state and lets nobody change it, so every state that it is in came from its own calls. It
-/// can't be cloned: each of two copies would admit packets for itself, and together they would send
-/// more than one gate may.
+/// It holds its state and lets nobody change it: every state that it is in is sound, and came from its own calls or from
+/// the state that it went on with ([`Gate::resume`]). It can't be cloned: each of two copies would admit packets for
+/// itself, and together they would send more than one gate may.
 ///
 /// Every call takes the radio's stamp, a 32-bit count of µs that starts anywhere and wraps. The gate has to be
 /// called at least once in 2,147,483,647 µs (some 35 minutes); after a longer time the clock seems to have gone
@@ -53,21 +53,21 @@ pub struct Gate {
 /// What a gate does with an offer that finds 5 unexpired packets of its priority.
 ///
 /// ```
-/// use presscurlew::{Gate, Offer, Refusal, WhenFull};
+/// use presscurlew::{Gate, Offer, Profile, Refusal, WhenFull};
 ///
 /// let offer = |id| Offer { id, priority: 1, ontime: 400, lifetime: 60_000 };
-/// let mut dropping = Gate::new(1, WhenFull::DropOldest, 0)?;
-/// let mut refusing = Gate::new(1, WhenFull::RefuseNew, 0)?;
+/// let mut dropping = Gate::new(Profile::ReactiveA1, WhenFull::DropOldest, 0)?;
+/// let mut refusing = Gate::new(Profile::ReactiveA1, WhenFull::RefuseNew, 0)?;
 /// for id in 1..=5 {
 ///     dropping.offer(offer(id), 0)?;
 ///     refusing.offer(offer(id), 0)?;
 /// }
 /// dropping.offer(offer(6), 0)?;
-/// assert_eq!(dropping.state().queues[1].slots.map(|packet| packet.id), [2, 3, 4, 5, 6]);
+/// assert_eq!(dropping.state().queues[1].packets.map(|packet| packet.id), [2, 3, 4, 5, 6]);
 /// assert_eq!(dropping.counts().displaced, 1);
 ///
 /// assert_eq!(refusing.offer(offer(6), 0), Err(Refusal::QueueFull));
-/// assert_eq!(refusing.state().queues[1].slots.map(|packet| packet.id), [1, 2, 3, 4, 5]);
+/// assert_eq!(refusing.state().queues[1].packets.map(|packet| packet.id), [1, 2, 3, 4, 5]);
 /// # Ok::<(), Refusal>(())
 /// ```
 #[repr(u32)]
@@ -98,14 +98,14 @@ pub struct Offer {
 ///
 /// ```compile_fail
 /// # #![deny(unused_must_use)]
-/// # let mut gate = presscurlew::Gate::new(1, presscurlew::WhenFull::DropOldest, 0)?;
+/// # let mut gate = presscurlew::Gate::of_number(1, presscurlew::WhenFull::DropOldest, 0)?;
 /// gate.poll(30)?;
 /// # Ok::<(), presscurlew::Refusal>(())
 /// ```
 ///
 /// ```
 /// # #![deny(unused_must_use)]
-/// # let mut gate = presscurlew::Gate::new(1, presscurlew::WhenFull::DropOldest, 0)?;
+/// # let mut gate = presscurlew::Gate::of_number(1, presscurlew::WhenFull::DropOldest, 0)?;
 /// let answer = gate.poll(30)?;
 /// # Ok::<(), presscurlew::Refusal>(())
 /// ```
@@ -163,8 +163,8 @@ impl Offer {
 #[non_exhaustive]
 #[derive(Clone, Copy, Debug, PartialEq, Eq, Hash)]
 pub enum Refusal {
-    /// The profile is not 1 to 5. ([`sys::presscurlew_make`] answers this also if `when_full` is above 1, and
-    /// [`sys::write_make`] for profile 5, of which there is no log.)
+    /// The profile is not 1 to 5. ([`sys::make`] answers this also if `when_full` is above 1, and [`sys::write_make`] for
+    /// profile 5, of which there is no log.)
     BadProfile = 1,
     /// The step from the last stamp, modulo 2^32, is 2,147,483,648 or more.
     ClockBack = 2,
@@ -181,9 +181,10 @@ pub enum Refusal {
     BadLifetime = 7,
     /// 5 unexpired packets of this priority wait. Only a gate of [`WhenFull::RefuseNew`] answers this.
     QueueFull = 8,
-    /// The state is not sound. A [`Gate`] never answers this; the calls in [`sys`] may.
+    /// The state is not sound. Of a [`Gate`] only [`Gate::resume`] answers this; the calls in [`sys`] may.
     NoState = 9,
-    /// The kind of a burst's record is not 2. A [`Gate`] never answers this; [`sys::burst`] may, of one record.
+    /// The kind of a burst's record is not 2. A [`Gate`] never answers this; [`sys::burst`] may, of one record, and
+    /// [`sys::presscurlew_gate_call`] of a kind that is no call.
     BadKind = 10,
     /// The gate has accepted 10^15 offers.
     Spent = 11,
@@ -280,10 +281,16 @@ impl fmt::Display for Refusal {
 
 impl Error for Refusal {}
 
-/// The reply, unless it is a refusal.
-fn accepted(reply: sys::Reply) -> Result<sys::Reply, Refusal> {
+/// An archive with another layout would read the state for what it is not.
+fn hold_layout() {
+    let layout = sys::presscurlew_layout();
+    assert_eq!(layout, sys::LAYOUT, "the archive is not of this package");
+}
+
+/// What a reply refuses, if it does.
+fn accepted(reply: &sys::Reply) -> Result<(), Refusal> {
     if reply.kind != sys::REFUSED {
-        return Ok(reply);
+        return Ok(());
     }
     let number = u32::try_from(reply.number).ok();
     // The contracts give no number but those of the refusals.
@@ -302,8 +309,30 @@ fn taken(answer: u8) -> Result<(), Refusal> {
 }
 
 impl Gate {
-    /// A fresh gate of profile 1 to 4, at the radio's stamp. What it does when a queue is full is fixed here. Profile 5
-    /// needs a list of levels, and [`Gate::first_edition`] makes it.
+    /// A fresh gate, at the radio's stamp. What it does when a queue is full is fixed here. [`Profile::FirstEdition`] needs
+    /// a list of levels, and [`Gate::first_edition`] makes it.
+    ///
+    /// # Errors
+    ///
+    /// Of [`Profile::FirstEdition`] [`Refusal::BadList`]; no other is refused.
+    ///
+    /// # Panics
+    ///
+    /// If the archive that is linked has another layout than this package ([`sys::LAYOUT`]).
+    pub fn new(profile: Profile, when_full: WhenFull, stamp: u32) -> Result<Gate, Refusal> {
+        Gate::of_number(profile.number(), when_full, stamp)
+    }
+
+    /// A fresh gate as [`Gate::new`] makes it, where the profile is known by its number, 1 to 4.
+    ///
+    /// ```
+    /// use presscurlew::{Gate, Profile, Refusal, WhenFull};
+    ///
+    /// let gate = Gate::of_number(3, WhenFull::RefuseNew, 0)?;
+    /// assert_eq!(gate, Gate::new(Profile::Adaptive, WhenFull::RefuseNew, 0)?);
+    /// assert_eq!(Gate::of_number(6, WhenFull::RefuseNew, 0), Err(Refusal::BadProfile));
+    /// # Ok::<(), Refusal>(())
+    /// ```
     ///
     /// # Errors
     ///
@@ -311,9 +340,50 @@ impl Gate {
     ///
     /// # Panics
     ///
-    /// If the archive that is linked has another layout than this package ([`sys::LAYOUT`]).
-    pub fn new(profile: u32, when_full: WhenFull, stamp: u32) -> Result<Gate, Refusal> {
-        Gate::made(profile, when_full, sys::Levels::NONE, stamp)
+    /// As [`Gate::new`].
+    pub fn of_number(profile: u32, when_full: WhenFull, stamp: u32) -> Result<Gate, Refusal> {
+        Gate::made(profile, when_full, &sys::Levels::NONE, stamp)
+    }
+
+    /// A gate that goes on with a stored state: the one that the last call before a restart left ([`Gate::state`]). Then
+    /// nothing was restarted, and all that holds of one gate holds on.
+    ///
+    /// That needs the radio's clock to have run on, for less than 2,147,483,648 µs, and the state to be that of the last
+    /// call: one from before the last [`Answer::Sent`] doesn't know of that packet. Whether it is, nobody can see who
+    /// has the state alone. A host that isn't sure makes a fresh gate, and polls it for the first time 1,000,000 µs
+    /// later.
+    ///
+    /// ```
+    /// use presscurlew::{Answer, Gate, Offer, Profile, Refusal, WhenFull};
+    ///
+    /// let mut gate = Gate::new(Profile::ReactiveA1, WhenFull::DropOldest, 0)?;
+    /// gate.offer(Offer { id: 7, priority: 1, ontime: 400, lifetime: 60_000 }, 0)?;
+    /// assert!(matches!(gate.poll(0)?, Answer::Sent(_)));
+    /// let mut stored = *gate.state();
+    /// drop(gate);
+    ///
+    /// let mut gate = Gate::resume(stored)?;
+    /// gate.offer(Offer { id: 8, priority: 1, ontime: 400, lifetime: 200_000 }, 10_000)?;
+    /// assert_eq!(gate.poll(10_000)?, Answer::Closed { micros: 90_400 });
+    ///
+    /// stored.duty = 0; // as if it had been stored badly
+    /// assert_eq!(Gate::resume(stored), Err(Refusal::NoState));
+    /// # Ok::<(), Refusal>(())
+    /// ```
+    ///
+    /// # Errors
+    ///
+    /// [`Refusal::NoState`] if the state is not sound.
+    ///
+    /// # Panics
+    ///
+    /// As [`Gate::new`].
+    pub fn resume(state: sys::State) -> Result<Gate, Refusal> {
+        hold_layout();
+        if !sys::is_sound(&state) {
+            return Err(Refusal::NoState);
+        }
+        Ok(Gate { state })
     }
 
     /// A fresh gate of profile 5, the first edition's: the wait of level 0, and up to eight levels above it, each with
@@ -330,9 +400,9 @@ impl Gate {
     /// for _ in 0..9 {
     ///     gate.sample_count(1_000, 1_000, 0)?;
     /// }
-    /// assert_eq!(gate.state().tuning.level, 0);
+    /// assert_eq!(gate.state().level, 0);
     /// gate.sample_count(1_000, 1_000, 0)?;
-    /// assert_eq!(gate.state().tuning.level, 2);
+    /// assert_eq!(gate.state().level, 2);
     ///
     /// // Thresholds rise, and there are 1 to 8.
     /// let [low, high] = levels;
@@ -358,38 +428,20 @@ impl Gate {
         stamp: u32,
     ) -> Result<Gate, Refusal> {
         let list = sys::Levels::of(wait, levels);
-        Gate::made(Profile::FirstEdition.number(), when_full, list, stamp)
+        Gate::made(Profile::FirstEdition.number(), when_full, &list, stamp)
     }
 
     fn made(
         profile: u32,
         when_full: WhenFull,
-        list: sys::Levels,
+        list: &sys::Levels,
         stamp: u32,
     ) -> Result<Gate, Refusal> {
-        let layout = sys::presscurlew_layout();
-        assert_eq!(layout, sys::LAYOUT, "the archive is not of this package");
-        let turn = sys::presscurlew_make(profile, when_full as u32, list, stamp);
-        accepted(turn.reply)?;
-        Ok(Gate { state: turn.state })
-    }
-
-    /// A fresh gate as [`Gate::new`] makes it, where the profile is known by its name. None but
-    /// [`Profile::FirstEdition`] is refused.
-    ///
-    /// ```
-    /// use presscurlew::{Gate, Profile, WhenFull};
-    ///
-    /// let gate = Gate::of_profile(Profile::Adaptive, WhenFull::RefuseNew, 0)?;
-    /// assert_eq!(gate, Gate::new(3, WhenFull::RefuseNew, 0)?);
-    /// # Ok::<(), presscurlew::Refusal>(())
-    /// ```
-    ///
-    /// # Errors
-    ///
-    /// Those of [`Gate::new`].
-    pub fn of_profile(profile: Profile, when_full: WhenFull, stamp: u32) -> Result<Gate, Refusal> {
-        Gate::new(profile.number(), when_full, stamp)
+        hold_layout();
+        let mut state = sys::State::default();
+        let reply = sys::make(&mut state, profile, when_full as u32, list, stamp);
+        accepted(&reply)?;
+        Ok(Gate { state })
     }
 
     /// A sample of the channel by words: 1 to 12,500 probes in just enough words. Probe k is bit k mod 64 of word
@@ -398,16 +450,16 @@ impl Gate {
     /// The load, in parts per 1,000,000, is 1,000,000 × busy / probes, rounded down.
     ///
     /// ```
-    /// use presscurlew::{Gate, Refusal, WhenFull};
+    /// use presscurlew::{Gate, Profile, Refusal, WhenFull};
     ///
     /// // The new radio probes each 8 µs: 12,500 probes in 100 ms, in 196 words. Here the first 7,751 are busy.
     /// let mut words = [0; 196];
     /// for k in 0..7_751 {
     ///     words[k / 64] |= 1 << (k % 64);
     /// }
-    /// let mut gate = Gate::new(3, WhenFull::DropOldest, 0)?;
+    /// let mut gate = Gate::new(Profile::Adaptive, WhenFull::DropOldest, 0)?;
     /// gate.sample_words(12_500, &words, 100_000)?;
-    /// assert_eq!(gate.state().tuning.kept, 620_080);
+    /// assert_eq!(gate.state().kept, 620_080);
     ///
     /// // Not just enough words, and a probe too many.
     /// assert_eq!(gate.sample_words(12_500, &words[1..], 200_000), Err(Refusal::BadSample));
@@ -419,8 +471,7 @@ impl Gate {
     ///
     /// [`Refusal::ClockBack`], [`Refusal::ClockEnd`], [`Refusal::BadSample`].
     pub fn sample_words(&mut self, probes: u32, words: &[u64], stamp: u32) -> Result<(), Refusal> {
-        self.take(sys::sample_words(self.state, probes, words, stamp))?;
-        Ok(())
+        accepted(&sys::sample_words(&mut self.state, probes, words, stamp))
     }
 
     /// A sample of the channel by its busy count: how many of 1 to 12,500 probes were busy.
@@ -429,10 +480,7 @@ impl Gate {
     ///
     /// [`Refusal::ClockBack`], [`Refusal::ClockEnd`], [`Refusal::BadSample`].
     pub fn sample_count(&mut self, busy: u32, probes: u32, stamp: u32) -> Result<(), Refusal> {
-        self.take(sys::presscurlew_sample_count(
-            self.state, busy, probes, stamp,
-        ))?;
-        Ok(())
+        accepted(&sys::sample_count(&mut self.state, busy, probes, stamp))
     }
 
     /// A packet to send: it joins the back of its priority's queue. Where 5 unexpired packets wait there, [`WhenFull`]
@@ -443,25 +491,16 @@ impl Gate {
     /// [`Refusal::ClockBack`], [`Refusal::ClockEnd`], [`Refusal::BadPriority`], [`Refusal::BadOnTime`],
     /// [`Refusal::BadLifetime`], [`Refusal::QueueFull`], [`Refusal::Spent`].
     pub fn offer(&mut self, offer: Offer, stamp: u32) -> Result<(), Refusal> {
-        let Offer {
-            id,
-            priority,
-            ontime,
-            lifetime,
-        } = offer;
-        self.take(sys::presscurlew_offer(
-            self.state, id, priority, ontime, lifetime, stamp,
-        ))?;
-        Ok(())
+        accepted(&sys::offer(&mut self.state, offer, stamp))
     }
 
     /// Packets to send, each with its stamp, in one call: exactly [`Gate::offer`] of one after the other, and faster.
     /// There is an answer for each, in their order, and one that is refused does not stop those after it.
     ///
     /// ```
-    /// use presscurlew::{Gate, Offer, Refusal, WhenFull};
+    /// use presscurlew::{Gate, Offer, Profile, Refusal, WhenFull};
     ///
-    /// let mut gate = Gate::new(2, WhenFull::DropOldest, 0)?;
+    /// let mut gate = Gate::new(Profile::ReactiveA2, WhenFull::DropOldest, 0)?;
     /// let warning = Offer { id: 1, priority: 0, ontime: 400, lifetime: 100_000 };
     /// let too_long = Offer { id: 2, ontime: 501, ..warning };
     /// let map = Offer { id: 3, priority: 3, ..warning };
@@ -484,9 +523,9 @@ impl Gate {
     /// The same where there is no heap: the answers go to the first places of `answers`.
     ///
     /// ```
-    /// use presscurlew::{Gate, Offer, Refusal, WhenFull};
+    /// use presscurlew::{Gate, Offer, Profile, Refusal, WhenFull};
     ///
-    /// let mut gate = Gate::new(2, WhenFull::DropOldest, 0)?;
+    /// let mut gate = Gate::new(Profile::ReactiveA2, WhenFull::DropOldest, 0)?;
     /// let warning = Offer { id: 1, priority: 0, ontime: 400, lifetime: 100_000 };
     /// let too_long = Offer { id: 2, ontime: 501, ..warning };
     /// let mut answers = [Ok(()); 2];
@@ -524,10 +563,9 @@ impl Gate {
 
     /// A burst of records, with a byte for each.
     fn burst(&mut self, records: &[[u8; sys::RECORD_BYTES]], answers: &mut [u8]) {
-        let turn = sys::burst(self.state, records.as_flattened(), answers);
+        let number = sys::burst(&mut self.state, records.as_flattened(), answers);
         // Whole records and a byte for each: such a burst is not refused.
-        assert_eq!(turn.number, 0, "the archive refused a whole burst");
-        self.state = turn.state;
+        assert_eq!(number, 0, "the archive refused a whole burst");
     }
 
     /// A burst of records.
@@ -551,10 +589,10 @@ impl Gate {
     /// A shorter packet behind it has to wait as well.
     ///
     /// ```
-    /// use presscurlew::{Answer, Gate, Offer, WhenFull};
+    /// use presscurlew::{Answer, Gate, Offer, Profile, WhenFull};
     ///
     /// // A quiet channel brings profile 3 to its highest duty: a packet of 4,000 µs may go each 133,334 µs.
-    /// let mut gate = Gate::new(3, WhenFull::DropOldest, 0)?;
+    /// let mut gate = Gate::new(Profile::Adaptive, WhenFull::DropOldest, 0)?;
     /// for _ in 0..1_000 {
     ///     gate.sample_count(0, 1_000, 0)?;
     /// }
@@ -575,7 +613,8 @@ impl Gate {
     ///
     /// [`Refusal::ClockBack`], [`Refusal::ClockEnd`].
     pub fn poll(&mut self, stamp: u32) -> Result<Answer, Refusal> {
-        let reply = self.take(sys::presscurlew_poll(self.state, stamp))?;
+        let reply = sys::poll(&mut self.state, stamp);
+        accepted(&reply)?;
         Ok(match reply.kind {
             sys::SENT => Answer::Sent(reply.packet),
             sys::IDLE => Answer::Idle,
@@ -591,9 +630,9 @@ impl Gate {
     /// wait. A packet counts as expired when it is removed: at the first offer or poll that finds it so.
     ///
     /// ```
-    /// use presscurlew::{Answer, Counts, Gate, Offer, WhenFull};
+    /// use presscurlew::{Answer, Counts, Gate, Offer, Profile, WhenFull};
     ///
-    /// let mut gate = Gate::new(1, WhenFull::DropOldest, 0)?;
+    /// let mut gate = Gate::new(Profile::ReactiveA1, WhenFull::DropOldest, 0)?;
     /// for id in 0..3 {
     ///     gate.offer(Offer { id, priority: 1, ontime: 400, lifetime: 60_000 }, 0)?;
     /// }
@@ -606,25 +645,22 @@ impl Gate {
     /// # Ok::<(), presscurlew::Refusal>(())
     /// ```
     pub fn counts(&self) -> Counts {
-        self.state.counts
+        self.state.counts()
     }
 
-    /// The state, to look at: level, duty, what waits, the running time, the admissions of the last second.
+    /// The state, to look at and to store: level, duty, what waits, the running time, the admissions of the last second.
+    /// A copy of it can be gone on with after a restart ([`Gate::resume`]).
     ///
     /// ```
-    /// let mut gate = presscurlew::Gate::new(1, presscurlew::WhenFull::DropOldest, 0)?;
+    /// use presscurlew::{Gate, Profile, WhenFull};
+    ///
+    /// let mut gate = Gate::new(Profile::ReactiveA1, WhenFull::DropOldest, 0)?;
     /// gate.sample_count(700, 1_000, 100_000)?;
-    /// assert_eq!(gate.state().tuning.level, 1);
-    /// assert_eq!(gate.state().admissions().count(), 0);
+    /// assert_eq!(gate.state().level, 1);
+    /// assert_eq!(gate.state().last_second().count(), 0);
     /// # Ok::<(), presscurlew::Refusal>(())
     /// ```
     pub fn state(&self) -> &sys::State {
         &self.state
-    }
-
-    /// Keeps the state that a call handed back. That of a refused call is the one it was given.
-    fn take(&mut self, turn: sys::Turn) -> Result<sys::Reply, Refusal> {
-        self.state = turn.state;
-        accepted(turn.reply)
     }
 }

@@ -9,7 +9,7 @@
 //! # let mut on_air = Vec::new();
 //! # let mut transmit = |id| on_air.push(id);
 //! // Every call takes the radio's own clock, a 32-bit count of µs that starts anywhere and wraps.
-//! let mut gate = Gate::of_profile(Profile::ReactiveA1, WhenFull::DropOldest, 1_000)?;
+//! let mut gate = Gate::new(Profile::ReactiveA1, WhenFull::DropOldest, 1_000)?;
 //!
 //! // The radio probed the channel 1,000 times, and found it busy 450 times.
 //! gate.sample_count(450, 1_000, 101_000)?;

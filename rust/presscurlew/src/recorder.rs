@@ -133,7 +133,7 @@ fn busy_in(record: [u8; RECORD_BYTES]) -> u32 {
 }
 
 impl<W: Write> Recorder<W> {
-    /// A fresh gate ([`Gate::new`]) that records to the sink, the make first. A sink that the host wants back if the
+    /// A fresh gate ([`Gate::of_number`]) that records to the sink, the make first. A sink that the host wants back if the
     /// make is refused is lent: `&mut W` is a sink too.
     ///
     /// # Errors
@@ -152,7 +152,7 @@ impl<W: Write> Recorder<W> {
         let profile = if unsaid { u8::MAX.into() } else { profile };
         let way = when_full as u32;
         log.record(|place| sys::write_make(profile, way, stamp, place, 0))?;
-        let gate = Gate::new(profile, when_full, stamp)?;
+        let gate = Gate::of_number(profile, when_full, stamp)?;
         Ok(Recorder { gate, log })
     }
 
@@ -280,7 +280,7 @@ impl<W> Recorder<W> {
     /// assert!(matches!(gate.poll(300), Err(RecordError::Log(_))));
     ///
     /// let (mut gate, _) = gate.into_parts();
-    /// assert_eq!(gate.state().clock.time, 200); // the last poll was not made
+    /// assert_eq!(gate.state().time, 200); // the last poll was not made
     /// assert_eq!(gate.poll(300)?, Answer::Idle);
     /// # Ok::<(), RecordError>(())
     /// ```

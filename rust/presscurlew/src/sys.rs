@@ -1,9 +1,12 @@
 //! The archives' calls as C sees them; `include/presscurlew.h` declares the same, and says more.
 //!
-//! The gate's calls take a [`State`] by value and hand back the next one in a [`Turn`]. They are for hosts
-//! that store states themselves, and for tests; [`crate::Gate`] keeps its state safe. The state of each call
-//! goes into the next one, unchanged and once: two calls on copies of one state are two gates. A burst is many offers
-//! in one call, as bytes.
+//! The gate's calls change a [`State`] in place, and answer with a [`Reply`]. They are for hosts that store states
+//! themselves, and for tests; [`crate::Gate`] keeps its state safe. A refused call leaves every byte of the state as it
+//! was. A copy of a state is another gate: two that go on from one state would each admit packets for itself. A burst is
+//! many offers in one call, as bytes.
+//!
+//! The functions [`make`], [`sample_words`], [`sample_count`], [`offer`], [`poll`], [`burst`] and [`is_sound`] hand on
+//! pointers to the parts of a state, as C's do, and do nothing else.
 //!
 //! The writers ([`write_make`] to [`write_poll`]) write a call's record for the log, and leave the call itself to the
 //! host; [`crate::Recorder`] does both.
@@ -12,20 +15,26 @@
 //! numbers are 0.
 //!
 //! ```
-//! use presscurlew::sys;
+//! use presscurlew::{sys, Offer};
 //!
-//! let made = sys::presscurlew_make(2, sys::DROP_OLDEST, sys::Levels::NONE, 0);
-//! let offered = sys::presscurlew_offer(made.state, 7, 1, 400, 60_000, 100);
-//! let polled = sys::presscurlew_poll(offered.state, 200);
-//! assert_eq!((polled.reply.kind, polled.reply.packet.id), (sys::SENT, 7));
+//! let mut state = sys::State::default();
+//! assert_eq!(sys::make(&mut state, 2, sys::DROP_OLDEST, &sys::Levels::NONE, 0).kind, sys::READY);
+//! let warning = Offer { id: 7, priority: 1, ontime: 400, lifetime: 60_000 };
+//! assert_eq!(sys::offer(&mut state, warning, 100).kind, sys::TAKEN);
+//! let reply = sys::poll(&mut state, 200);
+//! assert_eq!((reply.kind, reply.packet.id), (sys::SENT, 7));
 //!
-//! // A state that was changed is refused with 9, and comes back as it was.
-//! let mut bent = polled.state;
+//! // A state that was changed from outside is refused with 9, and stays as it is.
+//! let mut bent = state;
 //! bent.queues[0].len = 6;
-//! let refused = sys::presscurlew_poll(bent, 300);
-//! assert_eq!((refused.reply.kind, refused.reply.number), (sys::REFUSED, 9));
-//! assert_eq!(refused.state, bent);
+//! let before = bent;
+//! let reply = sys::poll(&mut bent, 300);
+//! assert_eq!((reply.kind, reply.number), (sys::REFUSED, 9));
+//! assert_eq!(bent, before);
 //! ```
+
+use core::mem::offset_of;
+use core::ptr;
 
 /// What the wanted level and the level step answer.
 #[repr(C)]
@@ -73,12 +82,12 @@ pub struct FloatAnswer {
 
 /// The version of this package as the archive's [`presscurlew_version`] has it: a million for each major and a thousand
 /// for each minor number.
-pub const VERSION_NUMBER: u32 = 9_000;
+pub const VERSION_NUMBER: u32 = 10_000;
 /// The number of the layout that this module declares. An archive whose [`presscurlew_layout`] is another one has
-/// other structs or other calls, and must not be called; [`crate::Gate::new`] sees to it.
-pub const LAYOUT: u32 = 1_764_727_010;
+/// other structs or other calls, and must not be called; every [`crate::Gate`] sees to it when it is made.
+pub const LAYOUT: u32 = 2_252_050_035;
 
-// Safe to call: the archives' functions answer any numbers at all, and touch no memory of the caller's.
+// Safe to call: these answer any numbers at all, and touch no memory of the caller's.
 #[allow(unsafe_code)]
 unsafe extern "C" {
     /// The archive's [`VERSION_NUMBER`].
@@ -120,7 +129,7 @@ unsafe extern "C" {
     ) -> FloatAnswer;
 }
 
-/// A packet that waits. An unused slot is all zero.
+/// A packet as a [`Reply`] has it.
 #[repr(C)]
 #[derive(Clone, Copy, Debug, Default, PartialEq, Eq, Hash)]
 pub struct Packet {
@@ -136,68 +145,36 @@ pub struct Packet {
     pub arrival: u64,
 }
 
-/// The packets of one priority.
+/// A packet that waits; its priority is that of its queue. An unused place is all zero.
+#[repr(C)]
+#[derive(Clone, Copy, Debug, Default, PartialEq, Eq, Hash)]
+pub struct Waiting {
+    /// The host's own name for it: any number, repeats allowed.
+    pub id: u32,
+    /// The on-time in µs.
+    pub ontime: u32,
+    /// The lifetime in µs.
+    pub lifetime: u32,
+}
+
+/// The most packets that wait in a queue.
+pub const MOST_WAITING: usize = 5;
+
+/// The packets of one priority. When each was offered stands in [`State::arrivals`].
 #[repr(C)]
 #[derive(Clone, Copy, Debug, Default, PartialEq, Eq, Hash)]
 pub struct Queue {
-    /// How many wait, 0 to 5; the archive's lengths have 64 bits.
-    pub len: u64,
+    /// How many wait, 0 to 5.
+    pub len: u32,
     /// The first `len` wait, the oldest first; the others are all zero.
-    pub slots: [Packet; 5],
+    pub packets: [Waiting; MOST_WAITING],
 }
 
-/// The running time, and the stamp that it was reached with.
-#[repr(C)]
-#[derive(Clone, Copy, Debug, Default, PartialEq, Eq, Hash)]
-pub struct Clock {
-    /// The running time in µs.
-    pub time: u64,
-    /// The stamp of the last call that was not refused.
-    pub stamp: u32,
-}
-
-/// The admissions of the last second, in every profile: younger than 1,000,000 µs, at least 25,000 µs apart, with at
-/// most 30,000 µs of on-time in all. The newest is the last admission; once that is older, the ledger is empty.
-///
-/// Each is one word: how long before the last admission it was made, in µs, times 4,096, and its on-time. The word of
-/// the newest so is its on-time. [`Ledger::admissions`] reads them.
-#[repr(C)]
-#[derive(Clone, Copy, Debug, PartialEq, Eq, Hash)]
-pub struct Ledger {
-    /// How many it holds, 0 to 40.
-    pub len: u64,
-    /// The first `len` are their words, the oldest first; the others are 0.
-    pub slots: [u32; MOST_ADMISSIONS],
-}
-
-/// The most admissions that a ledger holds.
+/// The most admissions that a state holds.
 pub const MOST_ADMISSIONS: usize = 40;
 
-/// What the distance is multiplied by in a word of a ledger: more than any on-time.
+/// What the distance is multiplied by in a word of [`State::air`]: more than any on-time.
 const WORD_STEP: u32 = 4_096;
-
-impl Default for Ledger {
-    /// A ledger without admissions.
-    fn default() -> Ledger {
-        Ledger {
-            len: 0,
-            slots: [0; MOST_ADMISSIONS],
-        }
-    }
-}
-
-impl Ledger {
-    /// The admissions, the oldest first, where `last` is that of the same state. Of a state that is not sound they mean
-    /// nothing: a length above 40 is read as 40, and a word that says more than there is before the last admission as
-    /// one at 0.
-    pub fn admissions(&self, last: Last) -> impl Iterator<Item = Admission> + '_ {
-        let held = self.slots.iter().zip(0..self.len);
-        held.map(move |(word, _)| Admission {
-            at: last.at.saturating_sub(u64::from(word / WORD_STEP)),
-            ontime: word % WORD_STEP,
-        })
-    }
-}
 
 /// An admission of the last second.
 #[derive(Clone, Copy, Debug, Default, PartialEq, Eq, Hash)]
@@ -220,21 +197,21 @@ pub struct Level {
 /// The most levels that a list has above level 0.
 pub const MOST_LEVELS: usize = 8;
 
-/// Profile 5's list of levels, which a make is given; in the state of any other profile it is [`Levels::NONE`]. Level 0
-/// has threshold 0 and the wait `wait`, and level k, from 1 to `len`, threshold `above[k - 1]` and wait `waits[k - 1]`.
+/// Profile 5's list of levels, which a make is given; no other profile looks at it. Level 0 has threshold 0 and the wait
+/// `base_wait`, and level k, from 1 to `count`, threshold `thresholds[k - 1]` and wait `waits[k - 1]`.
 ///
 /// A good list has 1 to 8 levels above level 0, waits of 40,000 to 1,000,000 µs, which may rise or fall, and thresholds
-/// that are at most 1,000,000 and rise strictly, the first above 0. What a list has past its length isn't looked at
+/// that are at most 1,000,000 and rise strictly, the first above 0. What a list has past its count isn't looked at
 /// when a gate is made; in a state it is 0.
 #[repr(C)]
 #[derive(Clone, Copy, Debug, Default, PartialEq, Eq, Hash)]
 pub struct Levels {
-    /// How many levels there are above level 0, 1 to 8; the archive's lengths have 64 bits.
-    pub len: u64,
+    /// How many levels there are above level 0, 1 to 8.
+    pub count: u32,
     /// The wait of level 0 in µs.
-    pub wait: u32,
-    /// The thresholds of levels 1 to `len`, as loads.
-    pub above: [u32; MOST_LEVELS],
+    pub base_wait: u32,
+    /// The thresholds of levels 1 to `count`, as loads.
+    pub thresholds: [u32; MOST_LEVELS],
     /// Their waits in µs.
     pub waits: [u32; MOST_LEVELS],
 }
@@ -242,35 +219,36 @@ pub struct Levels {
 impl Levels {
     /// No list, for profiles 1 to 4.
     pub const NONE: Levels = Levels {
-        len: 0,
-        wait: 0,
-        above: [0; MOST_LEVELS],
+        count: 0,
+        base_wait: 0,
+        thresholds: [0; MOST_LEVELS],
         waits: [0; MOST_LEVELS],
     };
 
     /// A list of the wait of level 0 and of the levels above it. More than [`MOST_LEVELS`] have no room, and the list's
-    /// length says that there were more: no gate is made of it.
+    /// count says that there were more: no gate is made of it.
     ///
     /// ```
     /// use presscurlew::sys::{self, Level, Levels};
     ///
     /// let list = Levels::of(60_000, &[Level { above: 500_000, wait: 400_000 }]);
-    /// assert_eq!((list.len, list.above[0], list.waits[0]), (1, 500_000, 400_000));
-    /// assert_eq!(sys::presscurlew_make(5, sys::DROP_OLDEST, list, 0).state.levels, list);
+    /// assert_eq!((list.count, list.thresholds[0], list.waits[0]), (1, 500_000, 400_000));
+    /// let mut state = sys::State::default();
+    /// assert_eq!(sys::make(&mut state, 5, sys::DROP_OLDEST, &list, 0).kind, sys::READY);
+    /// assert_eq!(state.levels(), list);
     ///
     /// let steps: Vec<Level> = (1..=9).map(|k| Level { above: 100_000 * k, wait: 100_000 }).collect();
     /// let longer = Levels::of(60_000, &steps);
-    /// assert_eq!(sys::presscurlew_make(5, sys::DROP_OLDEST, longer, 0).reply.number, 15);
+    /// assert_eq!(sys::make(&mut state, 5, sys::DROP_OLDEST, &longer, 0).number, 15);
     /// ```
-    pub fn of(wait: u32, listed: &[Level]) -> Levels {
-        let len = listed.len() as u64;
+    pub fn of(base_wait: u32, listed: &[Level]) -> Levels {
         let mut list = Levels {
-            len,
-            wait,
+            count: u32::try_from(listed.len()).unwrap_or(u32::MAX),
+            base_wait,
             ..Levels::NONE
         };
         for (place, level) in listed.iter().take(MOST_LEVELS).enumerate() {
-            list.above[place] = level.above;
+            list.thresholds[place] = level.above;
             list.waits[place] = level.wait;
         }
         list
@@ -280,50 +258,7 @@ impl Levels {
 /// The most loads that a state of profile 5 holds.
 pub const MOST_LOADS: usize = 50;
 
-/// The loads of the last samples that were taken, in profile 5; in the state of any other profile there are none.
-#[repr(C)]
-#[derive(Clone, Copy, Debug, PartialEq, Eq, Hash)]
-pub struct Loads {
-    /// How many it holds, 0 to 50.
-    pub len: u64,
-    /// The first `len`, the oldest first, in parts per 1,000,000; the others are 0.
-    pub slots: [u32; MOST_LOADS],
-}
-
-impl Default for Loads {
-    /// No loads.
-    fn default() -> Loads {
-        Loads {
-            len: 0,
-            slots: [0; MOST_LOADS],
-        }
-    }
-}
-
-/// What calls change in rows.
-#[repr(C)]
-#[derive(Clone, Copy, Debug, Default, PartialEq, Eq, Hash)]
-pub struct Rows {
-    /// The admissions of the last second.
-    pub ledger: Ledger,
-    /// Profile 5's last loads.
-    pub loads: Loads,
-}
-
-/// The last admission, however long ago. Before the first one all fields are 0.
-#[repr(C)]
-#[derive(Clone, Copy, Debug, Default, PartialEq, Eq, Hash)]
-pub struct Last {
-    /// The running time at which it was made.
-    pub at: u64,
-    /// The on-time of its packet.
-    pub ontime: u32,
-    /// 1 once something was admitted, else 0.
-    pub admitted: u32,
-}
-
 /// What the gate has counted since it was made: `accepted` is `sent` + `expired` + `displaced` + the packets that wait.
-#[repr(C)]
 #[derive(Clone, Copy, Debug, Default, PartialEq, Eq, Hash)]
 pub struct Counts {
     /// Offers accepted, at most 10^15.
@@ -336,10 +271,32 @@ pub struct Counts {
     pub displaced: u64,
 }
 
-/// What samples steer. The profile, which says how, stands beside it in the state.
+/// The state of one gate. Any values at all may stand in it: the calls refuse a state that is not sound.
+///
+/// It is plain numbers, 952 bytes without a gap, and may be copied and stored as bytes.
 #[repr(C)]
-#[derive(Clone, Copy, Debug, Default, PartialEq, Eq, Hash)]
-pub struct Tuning {
+#[derive(Clone, Copy, Debug, PartialEq, Eq, Hash)]
+pub struct State {
+    /// The running time in µs.
+    pub time: u64,
+    /// The running time of the last admission, however long ago; 0 before the first.
+    pub last_at: u64,
+    /// Offers accepted, at most 10^15.
+    pub accepted: u64,
+    /// Packets sent.
+    pub sent: u64,
+    /// Packets removed as expired.
+    pub expired: u64,
+    /// Packets dropped for a newer one of their priority.
+    pub displaced: u64,
+    /// The running time at which each packet was offered, by priority and place as in `queues`; 0 where none waits.
+    pub arrivals: [[u64; MOST_WAITING]; 4],
+    /// The stamp of the last call that was not refused.
+    pub stamp: u32,
+    /// The on-time of the last admission in µs; 0 before the first.
+    pub last_ontime: u32,
+    /// 1 once something was admitted, else 0.
+    pub admitted: u32,
     /// The level, 0 to 4; in profile 5 one of its list, 0 to 8.
     pub level: u32,
     /// The duty, in parts per 1,000,000,000.
@@ -352,56 +309,122 @@ pub struct Tuning {
     pub pairing: u32,
     /// In profile 4 the load of the latest sample, in parts per 1,000,000; 0 before any, and in the other profiles.
     pub latest: u32,
-}
-
-/// The state of one gate. Any values at all may stand in it: the calls refuse a state that is not sound.
-#[repr(C)]
-#[derive(Clone, Copy, Debug, Default, PartialEq, Eq, Hash)]
-pub struct State {
-    /// The queues, by priority.
-    pub queues: [Queue; 4],
-    /// Profile 5's list of levels; no call changes it.
-    pub levels: Levels,
-    /// The admissions of the last second, and profile 5's last loads.
-    pub rows: Rows,
-    /// The clock.
-    pub clock: Clock,
-    /// The last admission.
-    pub last: Last,
-    /// What was accepted, sent, expired and displaced.
-    pub counts: Counts,
-    /// What samples steer.
-    pub tuning: Tuning,
+    /// How many admissions `air` holds, 0 to 40.
+    pub admissions: u32,
+    /// How many loads `loads` holds, 0 to 50.
+    pub load_count: u32,
     /// The profile, 1 to 5; no call changes it.
     pub profile: u32,
     /// [`DROP_OLDEST`] or [`REFUSE_NEW`]; no call changes it.
-    pub oldway: u32,
-    /// 1; 0 in the all-zero state that a refused make hands back.
+    pub when_full: u32,
+    /// 1; 0 in the all-zero state that a refused make leaves.
     pub live: u32,
-}
-
-impl State {
-    /// The admissions of the last second, the oldest first.
+    /// Profile 5's list of levels, which no call changes: how many it has above level 0; 0 in the other profiles.
+    pub level_count: u32,
+    /// The wait of its level 0 in µs; 0 in the other profiles.
+    pub base_wait: u32,
+    /// The packets that wait, by priority.
+    pub queues: [Queue; 4],
+    /// The admissions of the last second, in every profile: younger than 1,000,000 µs, at least 25,000 µs apart, with at
+    /// most 30,000 µs of on-time in all. The newest is the last admission; once that is older, there are none.
     ///
-    /// ```
-    /// use presscurlew::sys::{self, Admission};
-    ///
-    /// let mut state = sys::presscurlew_make(2, sys::DROP_OLDEST, sys::Levels::NONE, 0).state;
-    /// for stamp in [0, 100_000] {
-    ///     let offered = sys::presscurlew_offer(state, 7, 1, 400, 60_000, stamp);
-    ///     state = sys::presscurlew_poll(offered.state, stamp).state;
-    /// }
-    /// let one = |at| Admission { at, ontime: 400 };
-    /// assert!(state.admissions().eq([one(0), one(100_000)]));
-    /// assert_eq!(state.rows.ledger.slots[..3], [100_000 * 4_096 + 400, 400, 0]);
-    /// ```
-    pub fn admissions(&self) -> impl Iterator<Item = Admission> + '_ {
-        self.rows.ledger.admissions(self.last)
-    }
+    /// The first `admissions` are their words, the oldest first; the others are 0. A word says how long before the last
+    /// admission its own was made, in µs, times 4,096, and its on-time. That of the newest so is its on-time.
+    /// [`State::last_second`] reads them.
+    pub air: [u32; MOST_ADMISSIONS],
+    /// Profile 5's last loads: the first `load_count`, the oldest first, in parts per 1,000,000; the others are 0.
+    pub loads: [u32; MOST_LOADS],
+    /// The thresholds of profile 5's levels 1 to `level_count`, as loads; the others are 0.
+    pub thresholds: [u32; MOST_LEVELS],
+    /// Their waits in µs; the others are 0.
+    pub waits: [u32; MOST_LEVELS],
 }
 
 // A target that aligns numbers otherwise has no archive. `examples/c/layout.out` has the place of every field.
-const _: () = assert!(size_of::<Ledger>() == 168 && size_of::<State>() == 1_072);
+const _: () = assert!(size_of::<State>() == 952 && size_of::<Reply>() == 40);
+
+impl Default for State {
+    /// The all-zero state, which is not sound: a refused make leaves it.
+    fn default() -> State {
+        State {
+            time: 0,
+            last_at: 0,
+            accepted: 0,
+            sent: 0,
+            expired: 0,
+            displaced: 0,
+            arrivals: [[0; MOST_WAITING]; 4],
+            stamp: 0,
+            last_ontime: 0,
+            admitted: 0,
+            level: 0,
+            duty: 0,
+            smoothed: 0,
+            kept: 0,
+            pairing: 0,
+            latest: 0,
+            admissions: 0,
+            load_count: 0,
+            profile: 0,
+            when_full: 0,
+            live: 0,
+            level_count: 0,
+            base_wait: 0,
+            queues: [Queue::default(); 4],
+            air: [0; MOST_ADMISSIONS],
+            loads: [0; MOST_LOADS],
+            thresholds: [0; MOST_LEVELS],
+            waits: [0; MOST_LEVELS],
+        }
+    }
+}
+
+impl State {
+    /// The admissions of the last second, the oldest first. Of a state that is not sound they mean nothing: a count above
+    /// 40 is read as 40, and a word that says more than there is before the last admission as one at 0.
+    ///
+    /// ```
+    /// use presscurlew::sys::Admission;
+    /// use presscurlew::{Answer, Gate, Offer, Profile, WhenFull};
+    ///
+    /// let mut gate = Gate::new(Profile::ReactiveA2, WhenFull::DropOldest, 0)?;
+    /// for stamp in [0, 100_000] {
+    ///     gate.offer(Offer { id: 7, priority: 1, ontime: 400, lifetime: 60_000 }, stamp)?;
+    ///     assert!(matches!(gate.poll(stamp)?, Answer::Sent(_)));
+    /// }
+    /// let one = |at| Admission { at, ontime: 400 };
+    /// assert!(gate.state().last_second().eq([one(0), one(100_000)]));
+    /// assert_eq!(gate.state().air[..3], [100_000 * 4_096 + 400, 400, 0]);
+    /// # Ok::<(), presscurlew::Refusal>(())
+    /// ```
+    pub fn last_second(&self) -> impl Iterator<Item = Admission> + '_ {
+        let held = self.air.iter().zip(0..self.admissions);
+        held.map(|(word, _)| Admission {
+            at: self.last_at.saturating_sub(u64::from(word / WORD_STEP)),
+            ontime: word % WORD_STEP,
+        })
+    }
+
+    /// What was counted.
+    pub fn counts(&self) -> Counts {
+        Counts {
+            accepted: self.accepted,
+            sent: self.sent,
+            expired: self.expired,
+            displaced: self.displaced,
+        }
+    }
+
+    /// Profile 5's list of levels; in the other profiles [`Levels::NONE`].
+    pub fn levels(&self) -> Levels {
+        Levels {
+            count: self.level_count,
+            base_wait: self.base_wait,
+            thresholds: self.thresholds,
+            waits: self.waits,
+        }
+    }
+}
 
 /// Made so, a gate drops the front packet of a full queue for a new one.
 pub const DROP_OLDEST: u32 = 0;
@@ -422,6 +445,7 @@ pub const CLOSED: u32 = 4;
 pub const REFUSED: u32 = 5;
 
 /// The answer to a call. What its kind does not use is 0.
+#[must_use]
 #[repr(C)]
 #[derive(Clone, Copy, Debug, Default, PartialEq, Eq, Hash)]
 pub struct Reply {
@@ -431,28 +455,6 @@ pub struct Reply {
     pub number: u64,
     /// The kind of the answer.
     pub kind: u32,
-}
-
-/// What a call hands back.
-#[must_use]
-#[repr(C)]
-#[derive(Clone, Copy, Debug, Default, PartialEq, Eq, Hash)]
-pub struct Turn {
-    /// The next state.
-    pub state: State,
-    /// The answer.
-    pub reply: Reply,
-}
-
-/// What a burst hands back.
-#[must_use]
-#[repr(C)]
-#[derive(Clone, Copy, Debug, Default, PartialEq, Eq, Hash)]
-pub struct BurstTurn {
-    /// The next state.
-    pub state: State,
-    /// 0, or 13 or 12 if the whole burst was refused. A record's own refusal stands in its answer byte.
-    pub number: u32,
 }
 
 /// The most probes that a sample has.
@@ -465,55 +467,109 @@ pub const RECORD_BYTES: usize = 16;
 /// The kind of a record that is an offer, its first byte.
 pub const RECORD_OFFER: u8 = 2;
 
-// Safe to call, but for those that take pointers: any numbers and any state at all are answered.
+/// What [`presscurlew_gate_call`] is asked by: a sample by its busy count.
+pub const CALL_SAMPLE: u32 = 1;
+/// What [`presscurlew_gate_call`] is asked by: an offer.
+pub const CALL_OFFER: u32 = 2;
+/// What [`presscurlew_gate_call`] is asked by: a poll.
+pub const CALL_POLL: u32 = 3;
+
+// Any numbers and any state at all are answered. What a caller has to see to is its pointers.
 #[allow(unsafe_code)]
 unsafe extern "C" {
-    /// A fresh state; `when_full` is [`DROP_OLDEST`] or [`REFUSE_NEW`], and the list is profile 5's: no other profile
-    /// looks at it.
-    pub safe fn presscurlew_make(profile: u32, when_full: u32, list: Levels, stamp: u32) -> Turn;
+    /// Makes a gate; [`make`] is the same of a state.
+    ///
+    /// # Safety
+    ///
+    /// The first eight point to 6, 16, 64, 20, 40, 50, 8 and 8 numbers that can be written, none of which is one of the
+    /// others, and the two of the list to 8 numbers each that can be read.
+    pub fn presscurlew_gate_make(
+        wide: *mut u64,
+        narrow: *mut u32,
+        queues: *mut u32,
+        arrivals: *mut u64,
+        air: *mut u32,
+        loads: *mut u32,
+        thresholds: *mut u32,
+        waits: *mut u32,
+        profile: u32,
+        when_full: u32,
+        count: u32,
+        base_wait: u32,
+        list_thresholds: *const u32,
+        list_waits: *const u32,
+        stamp: u32,
+    ) -> Reply;
 
-    /// A sample by words; [`sample_words`] is the same of a slice.
+    /// One call on a gate; [`sample_count`], [`offer`] and [`poll`] are the same of a state. `kind` is [`CALL_SAMPLE`] (the
+    /// numbers are busy and probes), [`CALL_OFFER`] (identifier, priority, on-time, lifetime) or [`CALL_POLL`]; any
+    /// other is refused with 10. Numbers that a kind has no use for are not looked at.
+    ///
+    /// # Safety
+    ///
+    /// The first eight point to 6, 16, 64, 20, 40, 50, 8 and 8 numbers. The last two can be read, and the others written;
+    /// none that is written is one of the others.
+    pub fn presscurlew_gate_call(
+        wide: *mut u64,
+        narrow: *mut u32,
+        queues: *mut u32,
+        arrivals: *mut u64,
+        air: *mut u32,
+        loads: *mut u32,
+        thresholds: *const u32,
+        waits: *const u32,
+        kind: u32,
+        first: u32,
+        second: u32,
+        third: u32,
+        fourth: u32,
+        stamp: u32,
+    ) -> Reply;
+
+    /// 1 if a state is sound, else 0; [`is_sound`] is the same of a state.
+    ///
+    /// # Safety
+    ///
+    /// They point to 6, 16, 64, 20, 40, 50, 8 and 8 numbers that can be read.
+    pub fn presscurlew_gate_sound(
+        wide: *const u64,
+        narrow: *const u32,
+        queues: *const u32,
+        arrivals: *const u64,
+        air: *const u32,
+        loads: *const u32,
+        thresholds: *const u32,
+        waits: *const u32,
+    ) -> u32;
+
+    /// The busy probes of a sample by words, or 4,294,967,295 if it is none; [`busy`] is the same of a slice.
     ///
     /// # Safety
     ///
     /// `words` points to `count` words that can be read; with `count` 0 it may be null.
-    pub fn presscurlew_sample_words(
-        state: State,
-        probes: u32,
-        words: *const u64,
-        count: usize,
-        stamp: u32,
-    ) -> Turn;
+    pub fn presscurlew_busy(probes: u32, words: *const u64, count: usize) -> u32;
 
-    /// A sample by its busy count of so many probes.
-    pub safe fn presscurlew_sample_count(state: State, busy: u32, probes: u32, stamp: u32) -> Turn;
-
-    /// A packet to send.
-    pub safe fn presscurlew_offer(
-        state: State,
-        id: u32,
-        priority: u32,
-        ontime: u32,
-        lifetime: u32,
-        stamp: u32,
-    ) -> Turn;
-
-    /// Many offers in one call; [`burst`] is the same of slices.
+    /// Many offers in one call; [`burst`] is the same of a state and slices.
     ///
     /// # Safety
     ///
-    /// `records` points to `bytes` bytes that can be read, and `answers` to `room` bytes that can be written, none of
-    /// which is a byte of the records. With a count of 0 its pointer may be null.
-    pub fn presscurlew_burst(
-        state: State,
+    /// The first eight are as those of [`presscurlew_gate_call`]. `records` points to `bytes` bytes that can be read, and
+    /// `answers` to `room` bytes that can be written, none of which is a byte of the records or of the state. With a
+    /// count of 0 its pointer may be null.
+    pub fn presscurlew_gate_burst(
+        wide: *mut u64,
+        narrow: *mut u32,
+        queues: *mut u32,
+        arrivals: *mut u64,
+        air: *mut u32,
+        loads: *mut u32,
+        thresholds: *const u32,
+        waits: *const u32,
         records: *const u8,
         bytes: usize,
         answers: *mut u8,
         room: usize,
-    ) -> BurstTurn;
-
-    /// Whether a packet may go, and which.
-    pub safe fn presscurlew_poll(state: State, stamp: u32) -> Turn;
+    ) -> u32;
 
     /// Writes a make's record; [`write_make`] is the same of a slice.
     ///
@@ -583,33 +639,213 @@ unsafe extern "C" {
     pub fn presscurlew_write_poll(stamp: u32, log: *mut u8, bytes: usize, at: usize) -> u32;
 }
 
-/// A sample by words, of a slice: 1 to [`MOST_PROBES`] probes, 64 in a word.
-#[allow(unsafe_code)]
-pub fn sample_words(state: State, probes: u32, words: &[u64], stamp: u32) -> Turn {
-    // SAFETY: the slice has `words.len()` words, and the archive only reads them.
-    unsafe { presscurlew_sample_words(state, probes, words.as_ptr(), words.len(), stamp) }
+/// Pointers to the parts of a state, as the calls take them. Each has the whole state's provenance.
+struct Parts {
+    wide: *mut u64,
+    narrow: *mut u32,
+    queues: *mut u32,
+    arrivals: *mut u64,
+    air: *mut u32,
+    loads: *mut u32,
+    thresholds: *mut u32,
+    waits: *mut u32,
 }
 
-/// Many offers in one call, of slices: 16 bytes a record, as [`crate::Offer::record`] gives them, and one byte for each
-/// answer, 0 for TAKEN or the number of the refusal. Bytes past the last answer are not written.
+impl Parts {
+    #[inline]
+    fn of(state: *mut State) -> Parts {
+        Parts {
+            wide: state.wrapping_byte_add(offset_of!(State, time)).cast(),
+            narrow: state.wrapping_byte_add(offset_of!(State, stamp)).cast(),
+            queues: state.wrapping_byte_add(offset_of!(State, queues)).cast(),
+            arrivals: state.wrapping_byte_add(offset_of!(State, arrivals)).cast(),
+            air: state.wrapping_byte_add(offset_of!(State, air)).cast(),
+            loads: state.wrapping_byte_add(offset_of!(State, loads)).cast(),
+            thresholds: state
+                .wrapping_byte_add(offset_of!(State, thresholds))
+                .cast(),
+            waits: state.wrapping_byte_add(offset_of!(State, waits)).cast(),
+        }
+    }
+}
+
+/// Makes a gate: the state is overwritten, whatever stood in it. `when_full` is [`DROP_OLDEST`] or [`REFUSE_NEW`], and the
+/// list is profile 5's: no other profile looks at it. A refused make leaves the all-zero state.
+///
+/// ```
+/// use presscurlew::sys::{self, Levels, State};
+///
+/// let mut state = State::default();
+/// assert_eq!(sys::make(&mut state, 1, sys::REFUSE_NEW, &Levels::NONE, 0).kind, sys::READY);
+/// assert!(sys::is_sound(&state));
+/// assert_eq!(sys::make(&mut state, 6, sys::REFUSE_NEW, &Levels::NONE, 0).number, 1);
+/// assert_eq!(state, State::default());
+/// ```
+#[allow(unsafe_code)]
+#[inline]
+pub fn make(state: &mut State, profile: u32, when_full: u32, list: &Levels, stamp: u32) -> Reply {
+    let parts = Parts::of(state);
+    // SAFETY: the parts are those of one state that is lent for the call, and lie apart; the list is read alone.
+    unsafe {
+        presscurlew_gate_make(
+            parts.wide,
+            parts.narrow,
+            parts.queues,
+            parts.arrivals,
+            parts.air,
+            parts.loads,
+            parts.thresholds,
+            parts.waits,
+            profile,
+            when_full,
+            list.count,
+            list.base_wait,
+            list.thresholds.as_ptr(),
+            list.waits.as_ptr(),
+            stamp,
+        )
+    }
+}
+
+/// One call on a state.
+#[allow(unsafe_code)]
+#[inline]
+fn call(state: &mut State, kind: u32, numbers: [u32; 4], stamp: u32) -> Reply {
+    let parts = Parts::of(state);
+    let [first, second, third, fourth] = numbers;
+    // SAFETY: the parts are those of one state that is lent for the call, and lie apart.
+    unsafe {
+        presscurlew_gate_call(
+            parts.wide,
+            parts.narrow,
+            parts.queues,
+            parts.arrivals,
+            parts.air,
+            parts.loads,
+            parts.thresholds,
+            parts.waits,
+            kind,
+            first,
+            second,
+            third,
+            fourth,
+            stamp,
+        )
+    }
+}
+
+/// The busy probes of a sample by words, 1 to [`MOST_PROBES`] probes, 64 in a word; 4,294,967,295 if it is none, which is
+/// more than any sample has.
+#[allow(unsafe_code)]
+#[inline]
+pub fn busy(probes: u32, words: &[u64]) -> u32 {
+    // SAFETY: the slice has `words.len()` words, and the archive only reads them.
+    unsafe { presscurlew_busy(probes, words.as_ptr(), words.len()) }
+}
+
+/// A sample by words: 1 to [`MOST_PROBES`] probes, 64 in a word.
+#[inline]
+pub fn sample_words(state: &mut State, probes: u32, words: &[u64], stamp: u32) -> Reply {
+    sample_count(state, busy(probes, words), probes, stamp)
+}
+
+/// A sample by its busy count of so many probes.
+#[inline]
+pub fn sample_count(state: &mut State, busy: u32, probes: u32, stamp: u32) -> Reply {
+    call(state, CALL_SAMPLE, [busy, probes, 0, 0], stamp)
+}
+
+/// A packet to send.
+#[inline]
+pub fn offer(state: &mut State, offer: crate::Offer, stamp: u32) -> Reply {
+    let crate::Offer {
+        id,
+        priority,
+        ontime,
+        lifetime,
+    } = offer;
+    call(state, CALL_OFFER, [id, priority, ontime, lifetime], stamp)
+}
+
+/// Whether a packet may go, and which.
+#[inline]
+pub fn poll(state: &mut State, stamp: u32) -> Reply {
+    call(state, CALL_POLL, [0; 4], stamp)
+}
+
+/// Whether a state is sound. Calls on any other are refused with 9.
+///
+/// ```
+/// use presscurlew::sys::{self, Levels, State};
+///
+/// let mut state = State::default();
+/// assert!(!sys::is_sound(&state));
+/// assert_eq!(sys::make(&mut state, 3, sys::DROP_OLDEST, &Levels::NONE, 0).kind, sys::READY);
+/// assert!(sys::is_sound(&state));
+/// state.sent = 1; // and nothing was accepted
+/// assert!(!sys::is_sound(&state));
+/// ```
+#[allow(unsafe_code)]
+pub fn is_sound(state: &State) -> bool {
+    let parts = Parts::of(ptr::from_ref(state).cast_mut());
+    // SAFETY: the parts are those of one state, and are only read.
+    let sound = unsafe {
+        presscurlew_gate_sound(
+            parts.wide,
+            parts.narrow,
+            parts.queues,
+            parts.arrivals,
+            parts.air,
+            parts.loads,
+            parts.thresholds,
+            parts.waits,
+        )
+    };
+    sound == 1
+}
+
+/// Many offers in one call: 16 bytes a record, as [`crate::Offer::record`] gives them, and one byte for each answer, 0 for
+/// TAKEN or the number of the refusal. Bytes past the last answer are not written.
+///
+/// The number is 0, or 13 or 12 if the whole burst is refused. A record's own refusal stands in its answer byte.
 ///
 /// ```
 /// use presscurlew::{sys, Offer};
 ///
-/// let fresh = sys::presscurlew_make(1, sys::DROP_OLDEST, sys::Levels::NONE, 0).state;
+/// let mut state = sys::State::default();
+/// assert_eq!(sys::make(&mut state, 1, sys::DROP_OLDEST, &sys::Levels::NONE, 0).kind, sys::READY);
+/// let mut single = state;
 /// let offer = Offer { id: 7, priority: 1, ontime: 400, lifetime: 60_000 };
 /// let bad = Offer { priority: 4, ..offer };
 /// let records = [offer.record(100), bad.record(100)];
 /// let mut answers = [255; 3];
-/// let turn = sys::burst(fresh, records.as_flattened(), &mut answers);
-/// assert_eq!((turn.number, answers), (0, [0, 5, 255]));
-/// assert_eq!(turn.state, sys::presscurlew_offer(fresh, 7, 1, 400, 60_000, 100).state);
+/// assert_eq!(sys::burst(&mut state, records.as_flattened(), &mut answers), 0);
+/// assert_eq!(answers, [0, 5, 255]);
+/// assert_eq!(sys::offer(&mut single, offer, 100).kind, sys::TAKEN);
+/// assert_eq!(state, single);
 /// ```
 #[allow(unsafe_code)]
-pub fn burst(state: State, records: &[u8], answers: &mut [u8]) -> BurstTurn {
-    let (bytes, room) = (records.len(), answers.len());
-    // SAFETY: the slices have so many bytes, and one that can be written lies apart from all others.
-    unsafe { presscurlew_burst(state, records.as_ptr(), bytes, answers.as_mut_ptr(), room) }
+#[must_use]
+pub fn burst(state: &mut State, records: &[u8], answers: &mut [u8]) -> u32 {
+    let parts = Parts::of(state);
+    // SAFETY: the parts are those of one state that is lent for the call, and lie apart; the slices have so many bytes,
+    // and one that can be written lies apart from all others.
+    unsafe {
+        presscurlew_gate_burst(
+            parts.wide,
+            parts.narrow,
+            parts.queues,
+            parts.arrivals,
+            parts.air,
+            parts.loads,
+            parts.thresholds,
+            parts.waits,
+            records.as_ptr(),
+            records.len(),
+            answers.as_mut_ptr(),
+            answers.len(),
+        )
+    }
 }
 
 /// Writes a make's record, 16 bytes at `at` of the log, and answers 0. Other bytes of the log keep what they had.
@@ -731,22 +967,30 @@ pub fn write_poll(stamp: u32, log: &mut [u8], at: usize) -> u32 {
 #[allow(unsafe_code)]
 mod tests {
     use super::*;
-    use core::ptr;
+
+    /// A fresh state of profile 1.
+    fn fresh() -> State {
+        let mut state = State::default();
+        let made = make(&mut state, 1, DROP_OLDEST, &Levels::NONE, 0);
+        assert_eq!(made.kind, READY);
+        state
+    }
 
     #[test]
     fn no_words_may_be_a_null_pointer() {
-        let fresh = presscurlew_make(1, DROP_OLDEST, Levels::NONE, 0).state;
         for probes in [0, 1, 64, u32::MAX] {
             // SAFETY: with a count of 0 nothing is read.
-            let turn = unsafe { presscurlew_sample_words(fresh, probes, ptr::null(), 0, 0) };
-            assert_eq!((turn.reply.kind, turn.reply.number), (REFUSED, 4));
-            assert_eq!(turn.state, fresh);
+            let busy = unsafe { presscurlew_busy(probes, ptr::null(), 0) };
+            assert_eq!(busy, u32::MAX);
+            let mut state = fresh();
+            let reply = sample_count(&mut state, busy, probes, 0);
+            assert_eq!((reply.kind, reply.number), (REFUSED, 4));
+            assert_eq!(state, fresh());
         }
     }
 
     #[test]
     fn no_records_and_no_answers_may_be_null_pointers() {
-        let fresh = presscurlew_make(1, DROP_OLDEST, Levels::NONE, 0).state;
         let record = [RECORD_OFFER; RECORD_BYTES];
         for (bytes, number) in [(0, 0), (15, 13), (16, 12)] {
             let records = if bytes == 0 {
@@ -754,31 +998,59 @@ mod tests {
             } else {
                 record.as_ptr()
             };
+            let mut state = fresh();
+            let parts = Parts::of(&mut state);
             // SAFETY: a null pointer has a count of 0, and the record has 16 bytes.
-            let turn = unsafe { presscurlew_burst(fresh, records, bytes, ptr::null_mut(), 0) };
-            let state = fresh;
-            assert_eq!(turn, BurstTurn { state, number });
+            let given = unsafe {
+                presscurlew_gate_burst(
+                    parts.wide,
+                    parts.narrow,
+                    parts.queues,
+                    parts.arrivals,
+                    parts.air,
+                    parts.loads,
+                    parts.thresholds,
+                    parts.waits,
+                    records,
+                    bytes,
+                    ptr::null_mut(),
+                    0,
+                )
+            };
+            assert_eq!((given, state), (number, fresh()));
+        }
+    }
+
+    /// The call of a kind that there is none of does nothing.
+    #[test]
+    fn kinds_of_no_call_are_refused_with_10() {
+        for kind in [0, 4, 5, 255, 256 + CALL_POLL, 1 << 31, u32::MAX] {
+            let mut state = fresh();
+            let reply = call(&mut state, kind, [1; 4], 5);
+            let due = Reply {
+                number: 10,
+                kind: REFUSED,
+                ..Reply::default()
+            };
+            assert_eq!((reply, state), (due, fresh()), "kind {kind}");
         }
     }
 
     #[test]
-    fn admissions_of_any_ledger_can_be_read() {
-        let mut ledger = Ledger {
-            len: u64::MAX,
-            slots: [u32::MAX; MOST_ADMISSIONS],
-        };
-        let last = Last {
-            at: 1_048_574,
-            ontime: 1,
-            admitted: 1,
+    fn admissions_of_any_state_can_be_read() {
+        let mut state = State {
+            last_at: 1_048_574,
+            admissions: u32::MAX,
+            air: [u32::MAX; MOST_ADMISSIONS],
+            ..State::default()
         };
         let oldest = Admission {
             at: 0,
             ontime: 4_095,
         };
-        assert!(ledger.admissions(last).eq([oldest; MOST_ADMISSIONS]));
-        ledger.len = 0;
-        assert_eq!(ledger.admissions(last).next(), None);
+        assert!(state.last_second().eq([oldest; MOST_ADMISSIONS]));
+        state.admissions = 0;
+        assert_eq!(state.last_second().next(), None);
     }
 
     #[test]

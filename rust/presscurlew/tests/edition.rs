@@ -129,9 +129,10 @@ fn profiles_by_name_are_those_that_make_takes() {
                 wait: 40_000,
             }],
         );
-        let made = sys::presscurlew_make(number, sys::DROP_OLDEST, list, 0);
+        let mut state = sys::State::default();
+        let made = sys::make(&mut state, number, sys::DROP_OLDEST, &list, 0);
         let profile = Profile::try_from(number);
-        assert_eq!(profile.is_ok(), made.reply.kind == sys::READY, "{number}");
+        assert_eq!(profile.is_ok(), made.kind == sys::READY, "{number}");
         if let Ok(profile) = profile {
             assert_eq!((profile.number(), u32::from(profile)), (number, number));
             assert!(profile.to_string().starts_with(&format!("{number}, ")));

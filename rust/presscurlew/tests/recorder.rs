@@ -171,10 +171,10 @@ fn a_recorded_run_plays_back() {
         let (stamp, way) = (rng.next_u32(), WHEN_FULL[way as usize]);
         let mut log = Vec::new();
         let mut gate = Recorder::new(profile, way, stamp, &mut log).expect("a good profile");
-        let mut bare = Gate::new(profile, way, stamp).expect("a good profile");
+        let mut bare = Gate::of_number(profile, way, stamp).expect("a good profile");
         let mut lines = vec!["READY".to_string()];
         for index in 0..60_000 {
-            let deed = any_deed(&mut rng, bare.state().clock.stamp);
+            let deed = any_deed(&mut rng, bare.state().stamp);
             let said = recorded(&mut gate, &deed).expect("a Vec takes all");
             assert_eq!(said, done(&mut bare, &deed), "{origin}, deed {index}");
             assert_eq!(*gate.gate(), bare, "{origin}, deed {index}: {deed:?}");
@@ -321,7 +321,7 @@ fn follow(disk: Disk, deeds: &[Deed], origin: &str) -> Vec<u8> {
         Err(RecordError::Log(_)) if room < RECORD_BYTES || flushes == 0 => return vec![],
         Err(error) => panic!("{origin}: {error}"),
     };
-    let mut bare = Gate::new(1, WhenFull::DropOldest, 0).expect("profile 1");
+    let mut bare = Gate::of_number(1, WhenFull::DropOldest, 0).expect("profile 1");
     let (mut records, mut failed) = (1, false);
     for (index, deed) in deeds.iter().enumerate() {
         let said = recorded(&mut gate, deed);
@@ -401,7 +401,7 @@ fn the_log_of_a_crash_has_the_last_call() {
             }
         }));
         assert!(crash.is_err());
-        assert_eq!(gate.gate().state().clock.time, calls as u64 - 1);
+        assert_eq!(gate.gate().state().time, calls as u64 - 1);
         // What the sink took of the last call is not known: there is no further one.
         assert!(matches!(gate.poll(20), Err(RecordError::Log(_))));
         // The make, the calls that were made, and the one that was not.

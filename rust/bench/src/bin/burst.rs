@@ -29,13 +29,18 @@ impl End {
     }
 }
 
-/// One C call an offer, the state by value there and back.
+/// One C call an offer.
 fn singles(start: sys::State, row: &[Call]) -> End {
     let mut end = End::at(start);
     for &[_, id, priority, ontime, lifetime, stamp] in row {
-        let turn = sys::presscurlew_offer(end.state, id, priority, ontime, lifetime, stamp);
-        end.state = turn.state;
-        end.note(turn.reply.number); // 0 for TAKEN
+        let offer = Offer {
+            id,
+            priority,
+            ontime,
+            lifetime,
+        };
+        let reply = sys::offer(&mut end.state, offer, stamp);
+        end.note(reply.number); // 0 for TAKEN
     }
     end
 }
@@ -55,8 +60,8 @@ fn bursts(start: sys::State, row: &[Call]) -> End {
             *record = offer.record(stamp);
         }
         let mut answers = [0; BURST];
-        let turn = sys::burst(end.state, records.as_flattened(), &mut answers);
-        end.state = turn.state;
+        let number = sys::burst(&mut end.state, records.as_flattened(), &mut answers);
+        assert_eq!(number, 0);
         answers.iter().for_each(|&answer| end.note(answer.into()));
     }
     end
@@ -112,7 +117,9 @@ const SIDES: [Run<sys::State, End>; 2] = [singles, bursts];
 
 fn measure(mix: &Mix, profile: u32) {
     let (row, name) = (row(mix), mix.name);
-    let start = sys::presscurlew_make(profile, mix.when_full, sys::Levels::NONE, 0).state;
+    let mut start = sys::State::default();
+    let made = sys::make(&mut start, profile, mix.when_full, &sys::Levels::NONE, 0);
+    assert_eq!(made.kind, sys::READY);
     let [one, other] = SIDES.map(|run| run(start, &row));
     assert!(one.state == other.state, "{name}: the states differ");
     assert_eq!(one.answers, other.answers, "{name}: the answers differ");

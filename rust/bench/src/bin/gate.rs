@@ -1,6 +1,5 @@
-//! Measures the gate, in a loop inside Rattle and by one C call after the other, beside plain Rust: (a) by value with
-//! the soundness test at every call, (b) in place with none. The four run the same row of calls in turn, and must end in
-//! the same state.
+//! Measures the gate's C calls, which change a state in place, beside plain Rust that does so: (a) with the same test of
+//! soundness at every call, (b) with none. The three run the same row of calls in turn, and must end in the same state.
 
 #[path = "../places.rs"]
 mod places;
@@ -12,7 +11,7 @@ mod sides;
 
 use places::{median, rounds, Call, PLACES};
 use presscurlew::sys;
-use sides::{ends_alike, Start, SIDES};
+use sides::{ends_alike, SIDES};
 
 /// Rounds of each side: as many at each place of the stack.
 const ROUNDS: usize = 13 * PLACES;
@@ -153,12 +152,15 @@ fn list_of(profile: u32) -> sys::Levels {
     }
 }
 
-fn start(mix: &Mix, profile: u32) -> Start {
-    let mut archive = sys::presscurlew_make(profile, mix.when_full, list_of(profile), 0).state;
+fn start(mix: &Mix, profile: u32) -> sys::State {
+    let mut state = sys::State::default();
+    let made = sys::make(&mut state, profile, mix.when_full, &list_of(profile), 0);
+    assert_eq!(made.kind, sys::READY);
     for _ in 0..mix.quiet {
-        archive = sys::presscurlew_sample_count(archive, 0, 1_000, 0).state;
+        let taken = sys::sample_count(&mut state, 0, 1_000, 0);
+        assert_eq!(taken.kind, sys::TAKEN);
     }
-    Start::of(archive)
+    state
 }
 
 fn row(mix: &Mix) -> Vec<Call> {
@@ -183,31 +185,31 @@ fn spread(times: &[f64]) -> [f64; 2] {
 }
 
 /// Prints a line, and hands back the spread of each side over the places.
-fn measure(mix: &Mix, profile: u32) -> [[f64; 2]; 4] {
+fn measure(mix: &Mix, profile: u32) -> [[f64; 2]; 3] {
     let (row, name) = (row(mix), mix.name);
     let start = start(mix, profile);
     ends_alike(start, &row, name);
     let times = rounds(SIDES, start, &row, ROUNDS);
     let spreads = times.each_ref().map(|side| spread(side));
-    let [ours, c, a, b] = times.map(median);
+    let [c, a, b] = times.map(median);
     println!(
-        "{name:<15}{profile:>7}{ours:>10.1}{c:>10.1}{a:>10.1}{b:>10.1}{:>8.2}{:>8.2}",
-        ours / a,
-        ours / b
+        "{name:<15}{profile:>7}{c:>10.1}{a:>10.1}{b:>10.1}{:>8.2}{:>8.2}",
+        c / a,
+        c / b
     );
     spreads
 }
 
 fn main() {
     println!("ns a call, median of {ROUNDS} rounds of {CALLS} calls each, in turn");
-    println!("mix            profile    Rattle   C calls       (a)       (b)   / (a)   / (b)");
+    println!("mix            profile    C call       (a)       (b)   / (a)   / (b)");
     let mut by_place = Vec::new();
     for profile in [1, 3, 5] {
         let mixes = MIXES.iter().filter(|mix| mix.profiles.contains(&profile));
         by_place.extend(mixes.map(|mix| measure(mix, profile)));
     }
     print!("first line, by the place in the stack:");
-    for (side, [least, greatest]) in ["Rattle", "C calls", "(a)", "(b)"].iter().zip(by_place[0]) {
+    for (side, [least, greatest]) in ["C call", "(a)", "(b)"].iter().zip(by_place[0]) {
         print!("  {side} {least:.1} to {greatest:.1}");
     }
     println!();

@@ -1,5 +1,5 @@
 //! Measures polls of profile 4, which finds its factor in a table, beside plain Rust that works the formula out at each poll:
-//! in polls a second, and in ns. The four sides are those of the bench `gate`, and must end in the same state.
+//! in polls a second, and in ns. The three sides are those of the bench `gate`, and must end in the same state.
 
 #[path = "../places.rs"]
 mod places;
@@ -10,8 +10,8 @@ mod plain;
 mod sides;
 
 use places::{median, rounds, Call, PLACES};
-use presscurlew::sys;
-use sides::{ends_alike, Start, SIDES};
+use presscurlew::{sys, Offer};
+use sides::{ends_alike, SIDES};
 
 /// Rounds of each side: as many at each place of the stack.
 const ROUNDS: usize = 13 * PLACES;
@@ -48,13 +48,23 @@ const MIXES: [Mix; 3] = [
     },
 ];
 
-fn start(mix: &Mix) -> Start {
-    let mut state = sys::presscurlew_make(4, sys::DROP_OLDEST, sys::Levels::NONE, 0).state;
-    state = sys::presscurlew_sample_count(state, mix.busy, PROBES, 0).state;
+fn start(mix: &Mix) -> sys::State {
+    let mut state = sys::State::default();
+    let made = sys::make(&mut state, 4, sys::DROP_OLDEST, &sys::Levels::NONE, 0);
+    assert_eq!(made.kind, sys::READY);
+    let taken = sys::sample_count(&mut state, mix.busy, PROBES, 0);
+    assert_eq!(taken.kind, sys::TAKEN);
     for id in [1, 2] {
-        state = sys::presscurlew_offer(state, id, 0, mix.ontime, 60_000_000, 0).state;
+        let offer = Offer {
+            id,
+            priority: 0,
+            ontime: mix.ontime,
+            lifetime: 60_000_000,
+        };
+        assert_eq!(sys::offer(&mut state, offer, 0).kind, sys::TAKEN);
     }
-    Start::of(sys::presscurlew_poll(state, 0).state)
+    assert_eq!(sys::poll(&mut state, 0).kind, sys::SENT);
+    state
 }
 
 fn polls(mix: &Mix) -> Vec<Call> {
@@ -72,20 +82,20 @@ fn sampled() -> Vec<Call> {
 }
 
 /// Prints a line: millions of calls a second of each side, and the ratios of the times.
-fn measure(name: &str, start: Start, row: &[Call]) {
+fn measure(name: &str, start: sys::State, row: &[Call]) {
     ends_alike(start, row, name);
-    let [ours, c, a, b] = rounds(SIDES, start, row, ROUNDS).map(median);
-    let [rattle, by_c, valued, in_place] = [ours, c, a, b].map(|ns| 1_000.0 / ns);
+    let [c, a, b] = rounds(SIDES, start, row, ROUNDS).map(median);
+    let [by_c, tested, untested] = [c, a, b].map(|ns| 1_000.0 / ns);
     println!(
-        "{name:<15}{rattle:>10.2}{by_c:>10.2}{valued:>10.2}{in_place:>10.2}{ours:>10.1}{a:>10.1}{:>8.2}",
-        ours / a
+        "{name:<15}{by_c:>10.2}{tested:>10.2}{untested:>10.2}{c:>10.1}{a:>10.1}{:>8.2}",
+        c / a
     );
 }
 
 fn main() {
     println!("profile 4: millions of calls a second by the median of {ROUNDS} rounds of {CALLS} calls each, in turn;");
-    println!("ns a call of Rattle and of (a), and the ratio of the two");
-    println!("row                Rattle   C calls       (a)       (b) ns Rattle    ns (a)   / (a)");
+    println!("ns of a C call and of (a), and the ratio of the two");
+    println!("row                C call       (a)       (b) ns C call    ns (a)   / (a)");
     for mix in &MIXES {
         measure(mix.name, start(mix), &polls(mix));
     }

@@ -1,11 +1,11 @@
-//! Measures what the plain engine, with its one list, costs beside the gate with its four queues: one C call after the
-//! other on both, the same rows in turn, which must end in the same state. There is no bar.
+//! Measures what the plain engine, with its one list by value, costs beside the gate with its four queues in place: one C
+//! call after the other on both, the same rows in turn, which must end in the same state. There is no bar.
 
 #[path = "../places.rs"]
 mod places;
 
 use places::{median, rounds, Call, Run, PLACES};
-use presscurlew::sys;
+use presscurlew::{sys, Offer};
 
 const ROUNDS: usize = 13 * PLACES;
 const CALLS: usize = 1_000;
@@ -27,12 +27,17 @@ struct End {
 fn by_gate(start: Start, row: &[Call]) -> End {
     let (mut state, mut sent) = (start.gate, 0);
     for &[kind, a, b, c, d, stamp] in row {
-        let turn = match kind {
-            2 => sys::presscurlew_offer(state, a, b, c, d, stamp),
-            _ => sys::presscurlew_poll(state, stamp),
+        let offer = Offer {
+            id: a,
+            priority: b,
+            ontime: c,
+            lifetime: d,
         };
-        state = turn.state;
-        sent += u64::from(turn.reply.kind == sys::SENT);
+        let reply = match kind {
+            2 => sys::offer(&mut state, offer, stamp),
+            _ => sys::poll(&mut state, stamp),
+        };
+        sent += u64::from(reply.kind == sys::SENT);
     }
     End { state, sent }
 }
@@ -83,9 +88,13 @@ fn start(profile: u32) -> Start {
         wait: 1_000_000,
     };
     let list = sys::Levels::of(100_000, &[level]);
+    let mut gate = sys::State::default();
+    let made = sys::make(&mut gate, profile, sys::DROP_OLDEST, &list, 0);
+    assert_eq!(made.kind, sys::READY);
+    let plain = plainhost::presscurlew_plain_make(profile, sys::DROP_OLDEST, list.into(), 0);
     Start {
-        gate: sys::presscurlew_make(profile, sys::DROP_OLDEST, list, 0).state,
-        plain: plainhost::presscurlew_plain_make(profile, sys::DROP_OLDEST, list, 0).state,
+        gate,
+        plain: plain.state,
     }
 }
 

@@ -7,7 +7,8 @@ mod plain;
 
 use std::io::{self, Read, Write};
 
-use plain::{Answer, State};
+use plain::Answer;
+use presscurlew::sys::State;
 
 fn word(bytes: &[u8], at: usize) -> u32 {
     u32::from_le_bytes([bytes[at], bytes[at + 1], bytes[at + 2], bytes[at + 3]])
@@ -44,7 +45,7 @@ fn record(state: &mut State, bytes: &[u8], out: &mut Vec<u8>) {
     let stamp = word(bytes, 12);
     let answer = match bytes[0] {
         0 if (1..=4).contains(&bytes[1]) && word(bytes, 4) <= 1 => {
-            *state = State::new(bytes[1] as u32, word(bytes, 4), stamp);
+            *state = plain::fresh(bytes[1] as u32, word(bytes, 4), stamp);
             out.extend_from_slice(b"READY\n");
             return;
         }
@@ -53,20 +54,20 @@ fn record(state: &mut State, bytes: &[u8], out: &mut Vec<u8>) {
             Answer::Refused(1)
         }
         4.. => Answer::Refused(10),
-        _ if !state.is_sound() => Answer::Refused(9),
+        _ if !plain::is_sound(state) => Answer::Refused(9),
         1 => {
             let probes = match word(bytes, 4) {
                 0 => 1_000,
                 told => told,
             };
-            state.sample(word(bytes, 8), probes, stamp)
+            plain::sample(state, word(bytes, 8), probes, stamp)
         }
         2 => {
             let ontime = u16::from_le_bytes([bytes[2], bytes[3]]) as u32;
             let numbers = [word(bytes, 8), bytes[1] as u32, ontime, word(bytes, 4)];
-            state.offer(numbers, stamp)
+            plain::offer(state, numbers, stamp)
         }
-        _ => state.poll(stamp),
+        _ => plain::poll(state, stamp),
     };
     line(out, answer);
 }

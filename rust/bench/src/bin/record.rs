@@ -42,16 +42,20 @@ impl End {
 
     fn call(&mut self, start: &Start, call: &Call) {
         let &[kind, a, b, c, d, stamp] = call;
-        let turn = match kind {
-            0 => sys::presscurlew_make(a, b, sys::Levels::NONE, stamp),
-            1 => sys::presscurlew_sample_count(self.state, a, PROBES, stamp),
-            2 => sys::presscurlew_offer(self.state, a, b, c, d, stamp),
-            WORDS | COUNTED => {
-                sys::sample_words(self.state, PROBES, &start.samples[a as usize], stamp)
-            }
-            _ => sys::presscurlew_poll(self.state, stamp),
+        let state = &mut self.state;
+        let offer = Offer {
+            id: a,
+            priority: b,
+            ontime: c,
+            lifetime: d,
         };
-        self.state = turn.state;
+        let _ = match kind {
+            0 => sys::make(state, a, b, &sys::Levels::NONE, stamp),
+            1 => sys::sample_count(state, a, PROBES, stamp),
+            2 => sys::offer(state, offer, stamp),
+            WORDS | COUNTED => sys::sample_words(state, PROBES, &start.samples[a as usize], stamp),
+            _ => sys::poll(state, stamp),
+        };
     }
 
     /// A sample by the busy count in the record of its words.
@@ -59,8 +63,7 @@ impl End {
         let at = index * sys::RECORD_BYTES % LOG_BYTES + 8;
         let bytes = self.log[at..at + 4].try_into().expect("4 bytes");
         let busy = u32::from_le_bytes(bytes);
-        let turn = sys::presscurlew_sample_count(self.state, busy, PROBES, stamp);
-        self.state = turn.state;
+        let _ = sys::sample_count(&mut self.state, busy, PROBES, stamp);
     }
 
     fn record(&mut self, start: &Start, call: &Call, index: usize) {
@@ -215,7 +218,9 @@ fn samples() -> Samples {
 
 fn measure(mix: &Mix, profile: u32, samples: Samples) {
     let (row, name) = (row(mix), mix.name);
-    let state = sys::presscurlew_make(profile, sys::DROP_OLDEST, sys::Levels::NONE, 0).state;
+    let mut state = sys::State::default();
+    let made = sys::make(&mut state, profile, sys::DROP_OLDEST, &sys::Levels::NONE, 0);
+    assert_eq!(made.kind, sys::READY);
     let sides: [Run<Start, End>; 3] = [calls, records, recorded_calls];
     let start = Start { state, samples };
     let [bare, log, both] = sides.map(|run| run(start, &row));

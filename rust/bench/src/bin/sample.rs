@@ -1,8 +1,7 @@
-//! Measures a sample by words, of as many probes as there may be, of 1,000 and of 64, beside plain Rust doing the same: in
-//! a loop inside Rattle, by one C call after the other, the record of the call, and what the words cost, which is the call
-//! by words less the call by count. The state goes by value; plain Rust has it also in place with the same soundness test,
-//! compiled into its loop as the gate is into Rattle's. The sides take turns in one run; calls must end in the same state,
-//! and records must be the same.
+//! Measures a sample by words, of as many probes as there may be, of 1,000 and of 64, beside plain Rust doing the same in
+//! place with the same test of soundness: the C call, the record of the call, and what the words cost, which is the call by
+//! words less the call by count. The sides take turns in one run; calls must end in the same state, and records must be
+//! the same.
 
 #[path = "../places.rs"]
 mod places;
@@ -11,8 +10,8 @@ mod places;
 mod plain;
 
 use places::{median, rounds, Run, PLACES};
-use plain::{busy_of, by_value, State};
-use presscurlew::sys;
+use plain::{busy_of, tested};
+use presscurlew::sys::{self, State};
 
 const ROUNDS: usize = 13 * PLACES;
 const CALLS: usize = 1_000;
@@ -37,37 +36,25 @@ impl Samples {
     }
 }
 
-/// The state that a row starts from, as the archive has it and as plain Rust does. All rows are of one profile.
+/// The state that a row starts from.
 #[derive(Clone, Copy)]
 struct Start {
-    archive: sys::State,
-    plain: State,
+    state: State,
     samples: &'static Samples,
 }
 
-/// What a row ends in: of the state the numbers that samples move, and the last record.
+/// What a row ends in: the state, and the last record.
 #[derive(Debug, Default, PartialEq, Eq)]
 struct End {
-    tuning: [u32; 6],
-    time: u64,
+    state: State,
     record: [u8; sys::RECORD_BYTES],
 }
 
 impl End {
-    fn of_archive(state: &sys::State) -> End {
-        let t = state.tuning;
+    fn of_state(state: State) -> End {
         End {
-            tuning: [t.level, t.duty, t.smoothed, t.kept, t.pairing, t.latest],
-            time: state.clock.time,
-            record: [0; sys::RECORD_BYTES],
-        }
-    }
-
-    fn of_plain(s: &State) -> End {
-        End {
-            tuning: [s.level, s.duty, s.smoothed, s.kept, s.pairing, s.latest],
-            time: s.time,
-            record: [0; sys::RECORD_BYTES],
+            state,
+            ..End::default()
         }
     }
 
@@ -79,79 +66,40 @@ impl End {
     }
 }
 
-extern "C" {
-    fn presscurlew_run_words(
-        state: sys::State,
-        probes: u32,
-        words: *const u64,
-        words_len: usize,
-        row: *const u32,
-        row_len: usize,
-    ) -> sys::State;
-}
-
-fn inside_rattle(start: Start, row: &[Call]) -> End {
-    let samples = start.samples;
-    let (words, row) = (&samples.words, row.as_flattened());
-    // SAFETY: the archive reads as many words and numbers behind the pointers as the lengths say, and keeps none.
-    let state = unsafe {
-        presscurlew_run_words(
-            start.archive,
-            samples.probes,
-            words.as_ptr(),
-            words.len(),
-            row.as_ptr(),
-            row.len(),
-        )
-    };
-    End::of_archive(&state)
-}
-
 fn archive_by_words(start: Start, row: &[Call]) -> End {
-    let (mut state, samples) = (start.archive, start.samples);
+    let (mut state, samples) = (start.state, start.samples);
     for &[which, stamp] in row {
         let words = samples.words_of(which);
-        state = sys::sample_words(state, samples.probes, words, stamp).state;
+        let _ = sys::sample_words(&mut state, samples.probes, words, stamp);
     }
-    End::of_archive(&state)
+    End::of_state(state)
 }
 
 fn plain_by_words(start: Start, row: &[Call]) -> End {
-    let (mut state, samples) = (start.plain, start.samples);
+    let (mut state, samples) = (start.state, start.samples);
     for &[which, stamp] in row {
         let words = samples.words_of(which);
-        state = by_value::sample_words(state, samples.probes, words, stamp).0;
+        tested::sample_words(&mut state, samples.probes, words, stamp);
     }
-    End::of_plain(&state)
-}
-
-/// The same test and the same call, compiled into the loop as the gate's are into Rattle's: no state is copied.
-fn plain_inside(start: Start, row: &[Call]) -> End {
-    let (mut state, samples) = (start.plain, start.samples);
-    for &[which, stamp] in row {
-        if state.is_sound() {
-            state.sample_words(samples.probes, samples.words_of(which), stamp);
-        }
-    }
-    End::of_plain(&state)
+    End::of_state(state)
 }
 
 fn archive_by_count(start: Start, row: &[Call]) -> End {
-    let (mut state, samples) = (start.archive, start.samples);
+    let (mut state, samples) = (start.state, start.samples);
     for &[which, stamp] in row {
         let busy = samples.busy[which as usize];
-        state = sys::presscurlew_sample_count(state, busy, samples.probes, stamp).state;
+        let _ = sys::sample_count(&mut state, busy, samples.probes, stamp);
     }
-    End::of_archive(&state)
+    End::of_state(state)
 }
 
 fn plain_by_count(start: Start, row: &[Call]) -> End {
-    let (mut state, samples) = (start.plain, start.samples);
+    let (mut state, samples) = (start.state, start.samples);
     for &[which, stamp] in row {
         let busy = samples.busy[which as usize];
-        state = by_value::sample(state, busy, samples.probes, stamp).0;
+        tested::sample(&mut state, busy, samples.probes, stamp);
     }
-    End::of_plain(&state)
+    End::of_state(state)
 }
 
 fn archive_record(start: Start, row: &[Call]) -> End {
@@ -214,9 +162,7 @@ fn samples(probes: u32) -> &'static Samples {
 /// The µs from one sample to the next.
 const STEP: u32 = 100_000;
 
-const SIDES: [Run<Start, End, Call>; 8] = [
-    inside_rattle,
-    plain_inside,
+const SIDES: [Run<Start, End, Call>; 6] = [
     archive_by_words,
     plain_by_words,
     archive_by_count,
@@ -226,11 +172,10 @@ const SIDES: [Run<Start, End, Call>; 8] = [
 ];
 
 fn start(profile: u32, samples: &'static Samples) -> Start {
-    Start {
-        archive: sys::presscurlew_make(profile, sys::DROP_OLDEST, sys::Levels::NONE, 0).state,
-        plain: State::new(profile, sys::DROP_OLDEST, 0),
-        samples,
-    }
+    let mut state = State::default();
+    let made = sys::make(&mut state, profile, sys::DROP_OLDEST, &sys::Levels::NONE, 0);
+    assert_eq!(made.kind, sys::READY);
+    Start { state, samples }
 }
 
 fn row() -> Vec<Call> {
@@ -241,28 +186,26 @@ fn row() -> Vec<Call> {
 /// A comparison of speed means something only between runs that end alike.
 fn ends_alike(start: Start, row: &[Call]) {
     let ends = SIDES.map(|run| run(start, row));
-    let states = ends[..6].iter();
+    let states = ends[..4].iter();
     assert!(
         states.into_iter().all(|end| *end == ends[0]),
         "the states differ"
     );
-    assert_eq!(ends[6], ends[7], "the records differ");
+    assert_eq!(ends[4], ends[5], "the records differ");
 }
 
 fn measure(profile: u32, samples: &'static Samples) {
     let (start, row) = (start(profile, samples), row());
     ends_alike(start, &row);
-    let [inside, plain_inside, words, plain, count, plain_count, record, plain_record] =
+    let [words, plain, count, plain_count, record, plain_record] =
         rounds(SIDES, start, &row, ROUNDS).map(median);
     let line = |name: &str, ours: f64, theirs: f64| {
         let probes = samples.probes;
         println!(
-            "{name:<32}{probes:>7}{profile:>9}{ours:>10.1}{theirs:>12.1}{:>8.2}",
+            "{name:<18}{probes:>7}{profile:>9}{ours:>10.1}{theirs:>12.1}{:>8.2}",
             ours / theirs
         );
     };
-    line("sample by words, inside Rattle", inside, plain);
-    line("both inside a loop", inside, plain_inside);
     line("sample by words", words, plain);
     line("sample by count", count, plain_count);
     line("words less count", words - count, plain - plain_count);
@@ -270,8 +213,8 @@ fn measure(profile: u32, samples: &'static Samples) {
 }
 
 fn main() {
-    println!("ns a call, across C but for those inside Rattle, median of {ROUNDS} rounds of {CALLS} calls each, in turn");
-    println!("call                             probes  profile    Rattle  plain Rust   ratio");
+    println!("ns a call across C, median of {ROUNDS} rounds of {CALLS} calls each, in turn");
+    println!("call               probes  profile    Rattle  plain Rust   ratio");
     for probes in PROBES {
         let samples = samples(probes);
         for profile in [1, 3] {

@@ -3,8 +3,8 @@
 
 use std::io::{self, BufWriter, Read, Write};
 
-use plainhost::{State, Turn};
-use presscurlew::sys::{self, Levels};
+use plainhost::{Levels, State, Turn};
+use presscurlew::sys;
 use reference::gate::Call;
 use reference::log::{read, LogCall, Record, RECORD_BYTES};
 

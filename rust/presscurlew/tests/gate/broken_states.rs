@@ -4,8 +4,8 @@
 use std::collections::BTreeMap;
 
 use crate::help::{
-    age_of, calls_at, fresh, hold, hold_any, hold_no_state, hold_no_state_burst, ontime_of, raw,
-    raw_if, read_state, word, ACCEPTED_MOST, PROFILES, TIME_END,
+    age_of, archive_make, calls_at, fresh, hold, hold_any, hold_no_state, hold_no_state_burst,
+    ontime_of, raw, raw_if, read_state, word, ACCEPTED_MOST, PROFILES, TIME_END,
 };
 use presscurlew::sys;
 use reference::ledgers::{self, row};
@@ -226,7 +226,8 @@ impl Broken {
     fn lengths(&mut self, profile: u32) {
         for state in [fresh(profile, 1, 77), base(profile, 5)] {
             for queue in 0..4 {
-                for bad in [6, 7, 255, 1 << 32, (1 << 32) + 1, 1 << 63, u64::MAX] {
+                // The last stands for all that 32 bits can't say.
+                for bad in [6, 7, 255, 256, 1 << 16, 1 << 31, (1 << 32) - 1] {
                     // The counts add up without that queue, of which nothing can be read.
                     self.add("queue length at most 5", state, |s| {
                         s.queues[queue].len = bad;
@@ -268,9 +269,6 @@ impl Broken {
         for bad in [0, 60_000_001, u32::MAX] {
             bend("waiting lifetime within limits", &|p| p.lifetime = bad);
         }
-        for bad in [(queue as u32 + 1) % 4, queue as u32 + 4, u32::MAX] {
-            bend("waiting in its own priority's queue", &|p| p.priority = bad);
-        }
         for bad in [TIME + 1, u64::MAX] {
             self.add("arrival not after running time", state, |s| {
                 let later = &mut s.queues[queue].slots[slot..length];
@@ -287,14 +285,47 @@ impl Broken {
         }
     }
 
-    /// One field of one slot of one queue that is unused.
+    /// A packet that has gone to the end of another queue, while its arrival, or all but its arrival, stays. It stands in
+    /// place of a packet of another priority in a queue: the archive's state has no priority of a packet, so that one
+    /// that has gone there altogether is sound, if its arrival is in order.
+    fn moved(&mut self, profile: u32, length: usize, queue: usize) {
+        let (from, to) = (length - 1, length);
+        for other in (0..4).filter(|&other| other != queue) {
+            let state = base(profile, length);
+            let gone = state.queues[queue].slots[from];
+            let mut shorter = state;
+            shorter.queues[queue].len -= 1;
+            shorter.queues[other].len += 1;
+            self.add("slots past the length zero", shorter, |s| {
+                s.queues[queue].slots[from] = Packet {
+                    arrival: gone.arrival,
+                    ..Packet::default()
+                };
+                s.queues[other].slots[to] = Packet {
+                    priority: other as u32,
+                    ..gone
+                };
+            });
+            self.add("arrivals not decreasing", shorter, |s| {
+                s.queues[queue].slots[from] = Packet::default();
+                s.queues[other].slots[to] = Packet {
+                    priority: other as u32,
+                    arrival: 0,
+                    ..gone
+                };
+            });
+        }
+    }
+
+    /// One field of one slot of one queue that is unused. Its priority is none: the archive's state doesn't have it.
     fn unused(&mut self, profile: u32, length: usize, queue: usize, slot: usize) {
-        let fields: [fn(&mut Packet); 7] = [
+        let fields: [fn(&mut Packet); 8] = [
             |p| p.id = 1,
             |p| p.id = 1 << 31,
-            |p| p.priority = 1,
             |p| p.ontime = 1,
+            |p| p.ontime = 1 << 31,
             |p| p.lifetime = 1,
+            |p| p.lifetime = 1 << 31,
             |p| p.arrival = 1,
             |p| p.arrival = 1 << 63,
         ];
@@ -325,6 +356,9 @@ impl Broken {
                 for queue in 0..4 {
                     (0..length).for_each(|slot| broken.waiting(profile, length, queue, slot));
                     (length..5).for_each(|slot| broken.unused(profile, length, queue, slot));
+                    if (1..5).contains(&length) {
+                        broken.moved(profile, length, queue);
+                    }
                 }
             }
         }
@@ -333,22 +367,32 @@ impl Broken {
 }
 
 /// A ledger that is too long, with the words of a good one. Of it nothing is read, so nothing young was admitted.
-fn longer_ledger(state: &State, len: u64) -> State {
+fn longer_ledger(state: &State, len: u32) -> State {
     let mut longer = raw(&state.with_admissions(&[]));
-    let slots = raw(state).rows.ledger.slots;
-    longer.rows.ledger = sys::Ledger { len, slots };
+    (longer.admissions, longer.air) = (len, raw(state).air);
     read_state(&longer).expect("no word is read")
 }
 
-/// States that break one rule, each with its name. Of those of the reference some have no words: a word is read from the
-/// last admission on, and can't be later than that.
+/// States that break one rule, each with its name. Of those of the reference the archive's state has no place for some: a
+/// word is read from the last admission on, and can't be later than that, and lengths have 32 bits. In place of longer
+/// ones stand the longest that these can say.
 pub fn broken_states() -> Vec<(&'static str, State)> {
     let mut states = Broken::all().states;
     states.retain(|(_, state)| raw_if(state).is_some());
     for state in PROFILES.into_iter().flat_map(ledger_states) {
-        for len in [41, 42, 256, (1 << 32) + 1, 1 << 63, u64::MAX] {
+        for len in [41, 42, 256, 1 << 16, (1 << 31) + 1, u32::MAX] {
             let longer = longer_ledger(&state, len);
             states.push(("ledger length at most 40", longer));
+        }
+    }
+    for state in listed_states(5) {
+        for len in [1 << 16, 1 << 31, (1 << 32) - 1] {
+            let mut longer = state;
+            longer.loads.len = len;
+            states.push(("last loads at most 50", longer));
+            let mut longer = state;
+            longer.levels.len = len;
+            states.push(("list good in profile 5", longer));
         }
     }
     states
@@ -358,7 +402,7 @@ pub fn broken_states() -> Vec<(&'static str, State)> {
 fn hold_all_calls(state: &sys::State, origin: &dyn std::fmt::Display) {
     let profile = state.profile;
     for step in [0, 1_000, 1 << 31] {
-        let stamp = state.clock.stamp.wrapping_add(step);
+        let stamp = state.stamp.wrapping_add(step);
         hold_no_state_burst(state, stamp, origin);
         for call in calls_at(
             if PROFILES.contains(&profile) {
@@ -422,9 +466,9 @@ fn words_that_are_bent_are_read_or_refused_with_9() {
     for profile in PROFILES {
         for state in ledger_states(profile).iter().map(raw) {
             for place in 0..40 {
-                for word in bent_words(state.rows.ledger.slots[place], profile, state.last.at) {
+                for word in bent_words(state.air[place], profile, state.last_at) {
                     let mut bent = state;
-                    bent.rows.ledger.slots[place] = word;
+                    bent.air[place] = word;
                     seen[usize::from(hold_alike(&bent, &"a word"))] += 1;
                 }
             }
@@ -439,26 +483,26 @@ fn words_that_stay_are_read_or_refused_with_9() {
     let mut seen = [0; 2];
     for profile in PROFILES {
         for state in ledger_states(profile).iter().map(raw) {
-            let (time, at, ontime) = (state.clock.time, state.last.at, state.last.ontime);
+            let (time, at, ontime) = (state.time, state.last_at, state.last_ontime);
             let mut bend = |change: &dyn Fn(&mut sys::State)| {
                 let mut bent = state;
                 change(&mut bent);
                 seen[usize::from(hold_alike(&bent, &"kept words"))] += 1;
             };
             for by in [1, 7, 8, 24_992, 24_993, 25_000, 999_999, 1_000_000] {
-                bend(&|s| s.last.at = at.wrapping_add(by));
-                bend(&|s| s.last.at = at.wrapping_sub(by));
-                bend(&|s| s.last.at = time.wrapping_sub(by));
+                bend(&|s| s.last_at = at.wrapping_add(by));
+                bend(&|s| s.last_at = at.wrapping_sub(by));
+                bend(&|s| s.last_at = time.wrapping_sub(by));
             }
             for at in [0, time, 1 << 32, 1 << 63, u64::MAX] {
-                bend(&|s| s.last.at = at);
+                bend(&|s| s.last_at = at);
             }
             for ontime in [0, 1, ontime + 1, 4_095, 4_096, ontime + 4_096, u32::MAX] {
-                bend(&|s| s.last.ontime = ontime);
+                bend(&|s| s.last_ontime = ontime);
             }
-            bend(&|s| s.last = sys::Last::default());
-            for len in (0..=42).chain([255, 1 << 32, 1 << 63, u64::MAX]) {
-                bend(&|s| s.rows.ledger.len = len);
+            bend(&|s| (s.last_at, s.last_ontime, s.admitted) = (0, 0, 0));
+            for len in (0..=42).chain([255, 1 << 16, 1 << 31, u32::MAX]) {
+                bend(&|s| s.admissions = len);
             }
         }
     }
@@ -467,7 +511,7 @@ fn words_that_stay_are_read_or_refused_with_9() {
 
 /// Holds every call to the reference, or to 9. Whether the state is sound.
 fn hold_alike(state: &sys::State, origin: &dyn std::fmt::Display) -> bool {
-    let stamp = state.clock.stamp;
+    let stamp = state.stamp;
     let calls = calls_at(state.profile, stamp.wrapping_add(1_000));
     let held = calls.iter().map(|call| hold_any(state, call, origin));
     let sound = held.filter(|sound| *sound).count() == calls.len();
@@ -483,9 +527,8 @@ fn words_of_a_full_ledger_by_example() {
     let admissions = row(40, 25_000, 1, TIME - 7);
     for profile in PROFILES {
         let full = raw(&base(profile, 2).with_admissions(&admissions));
-        let slots = full.rows.ledger.slots;
         let due = (0..40).rev().map(|n| word(25_000 * n, 1));
-        assert!(slots.iter().copied().eq(due), "{slots:?}");
+        assert!(full.air.iter().copied().eq(due), "{:?}", full.air);
         let is_sound = |change: &dyn Fn(&mut sys::State)| {
             let mut bent = full;
             change(&mut bent);
@@ -493,37 +536,37 @@ fn words_of_a_full_ledger_by_example() {
         };
         assert!(is_sound(&|_| {}));
         // All admissions move with the last one: to now, and until the oldest is a second old.
-        assert!(is_sound(&|s| s.last.at += 7));
-        assert!(!is_sound(&|s| s.last.at += 8));
-        assert!(is_sound(&|s| s.last.at -= 24_992));
-        assert!(!is_sound(&|s| s.last.at -= 24_993));
+        assert!(is_sound(&|s| s.last_at += 7));
+        assert!(!is_sound(&|s| s.last_at += 8));
+        assert!(is_sound(&|s| s.last_at -= 24_992));
+        assert!(!is_sound(&|s| s.last_at -= 24_993));
         // The oldest may be older, up to 999,999 µs; any other would come too near to the one before.
-        assert!(is_sound(&|s| s.rows.ledger.slots[0] += word(1, 0)));
-        assert!(is_sound(&|s| s.rows.ledger.slots[0] += word(24_992, 0)));
-        assert!(!is_sound(&|s| s.rows.ledger.slots[0] += word(24_993, 0)));
+        assert!(is_sound(&|s| s.air[0] += word(1, 0)));
+        assert!(is_sound(&|s| s.air[0] += word(24_992, 0)));
+        assert!(!is_sound(&|s| s.air[0] += word(24_993, 0)));
         for place in 0..40 {
             if place > 0 {
-                assert!(!is_sound(&|s| s.rows.ledger.slots[place] += word(1, 0)));
+                assert!(!is_sound(&|s| s.air[place] += word(1, 0)));
             }
             if place < 39 {
-                assert!(!is_sound(&|s| s.rows.ledger.slots[place] -= word(1, 0)));
-                assert!(is_sound(&|s| s.rows.ledger.slots[place] += 1));
+                assert!(!is_sound(&|s| s.air[place] -= word(1, 0)));
+                assert!(is_sound(&|s| s.air[place] += 1));
             }
-            assert!(!is_sound(&|s| s.rows.ledger.slots[place] -= 1));
+            assert!(!is_sound(&|s| s.air[place] -= 1));
             let longest = rules::on_time_max(profile).unwrap();
-            assert!(!is_sound(&|s| s.rows.ledger.slots[place] += longest));
+            assert!(!is_sound(&|s| s.air[place] += longest));
         }
         // The newest is the last admission.
-        assert!(!is_sound(&|s| s.rows.ledger.slots[39] += 1));
-        assert!(!is_sound(&|s| s.last.ontime += 1));
+        assert!(!is_sound(&|s| s.air[39] += 1));
+        assert!(!is_sound(&|s| s.last_ontime += 1));
         assert!(is_sound(&|s| {
-            s.rows.ledger.slots[39] += 1;
-            s.last.ontime += 1;
+            s.air[39] += 1;
+            s.last_ontime += 1;
         }));
-        assert!(!is_sound(&|s| s.rows.ledger.len = 39));
+        assert!(!is_sound(&|s| s.admissions = 39));
         assert!(!is_sound(&|s| {
-            s.rows.ledger.len = 39;
-            s.rows.ledger.slots[39] = 0;
+            s.admissions = 39;
+            s.air[39] = 0;
         }));
     }
 }
@@ -537,9 +580,9 @@ fn nothing_was_admitted_before_the_make() {
             let mut state = fresh(profile, 0, 77);
             state.time = last;
             let mut state = raw(&state.with_admissions(&row(many + 1, 25_000, 1, last)));
-            assert_eq!(state.rows.ledger.slots[0], word(last as u32, 1));
+            assert_eq!(state.air[0], word(last as u32, 1));
             assert!(hold_alike(&state, &"the first at 0"));
-            state.rows.ledger.slots[0] += word(1, 0);
+            state.air[0] += word(1, 0);
             assert_eq!(read_state(&state), None);
             assert!(!hold_alike(&state, &"the first before 0"));
         }
@@ -555,7 +598,7 @@ fn stray_words_are_refused_with_9() {
             for place in many as usize..40 {
                 for stray in [1, 4_095, 4_096, word(25_000, 1), 1 << 31, u32::MAX] {
                     let mut state = raw(&state);
-                    state.rows.ledger.slots[place] = stray;
+                    state.air[place] = stray;
                     hold_all_calls(&state, &format_args!("{stray} in place {place} of {many}"));
                 }
             }
@@ -573,21 +616,22 @@ fn one_broken_rule_is_refused_with_9() {
         *seen.entry(rule).or_insert(0) += 1;
     }
     for rule in rule_names() {
-        assert!(seen.contains_key(rule), "nothing breaks the rule: {rule}");
+        // In the archive's state a packet's priority is its queue's: it can't be another one.
+        let due = rule != "waiting in its own priority's queue";
+        assert_eq!(seen.contains_key(rule), due, "what breaks the rule: {rule}");
     }
 }
 
-/// A length above 5 is refused also where the counts add up to it, or do so modulo 2^64.
+/// A length above 5 is refused also where the counts add up to it.
 #[test]
 fn lengths_that_the_counts_agree_with_are_refused_with_9() {
     for profile in PROFILES {
         for length in 0..=5 {
             for queue in 0..4 {
-                for bad in [6, 7, 255, 1 << 32, 1 << 63, u64::MAX] {
+                for bad in [6, 7, 255, 1 << 16, 1 << 31, u32::MAX] {
                     let mut state = raw(&base(profile, length));
                     state.queues[queue].len = bad;
-                    let more = bad - length as u64;
-                    state.counts.accepted = state.counts.accepted.wrapping_add(more);
+                    state.accepted += u64::from(bad) - length as u64;
                     hold_all_calls(&state, &format_args!("length {bad}: {state:?}"));
                 }
             }
@@ -603,8 +647,8 @@ fn flags_above_1_are_refused_with_9() {
         for bad in [2, 3, 256, 1 << 31, u32::MAX] {
             let flags: [fn(&mut sys::State, u32); 3] = [
                 |s, flag| s.live = flag,
-                |s, flag| s.tuning.pairing = flag,
-                |s, flag| s.last.admitted = flag,
+                |s, flag| s.pairing = flag,
+                |s, flag| s.admitted = flag,
             ];
             for bend in flags {
                 let mut state = full;
@@ -618,45 +662,30 @@ fn flags_above_1_are_refused_with_9() {
 /// The state of a refused make, and states of bytes that are all the same.
 #[test]
 fn states_of_no_sense_are_refused_with_9() {
-    let refused = sys::presscurlew_make(0, sys::DROP_OLDEST, sys::Levels::NONE, 5);
+    let refused = archive_make(0, sys::DROP_OLDEST, &sys::Levels::NONE, 5);
     assert_eq!(refused.state, sys::State::default());
     hold_all_calls(&refused.state, &"the all-zero state");
     let mut state = raw(&State::default());
     for fill in [1, 2, 5, 255, u32::MAX] {
-        let packet = sys::Packet {
+        let packet = sys::Waiting {
             id: fill,
-            priority: fill,
             ontime: fill,
             lifetime: fill,
-            arrival: u64::from(fill),
         };
         state.queues = [sys::Queue {
-            len: u64::from(fill),
-            slots: [packet; 5],
+            len: fill,
+            packets: [packet; 5],
         }; 4];
-        state.rows.ledger = sys::Ledger {
-            len: u64::from(fill),
-            slots: [fill; 40],
-        };
-        state.rows.loads = sys::Loads {
-            len: u64::from(fill),
-            slots: [fill; 50],
-        };
-        state.levels = sys::Levels {
-            len: u64::from(fill),
-            wait: fill,
-            above: [fill; 8],
-            waits: [fill; 8],
-        };
-        state.profile = fill;
-        state.oldway = fill;
         let count = u64::from(fill);
-        state.counts = sys::Counts {
-            accepted: count,
-            sent: count,
-            expired: count,
-            displaced: count,
-        };
+        state.arrivals = [[count; 5]; 4];
+        (state.admissions, state.air) = (fill, [fill; 40]);
+        (state.load_count, state.loads) = (fill, [fill; 50]);
+        (state.level_count, state.base_wait) = (fill, fill);
+        (state.thresholds, state.waits) = ([fill; 8], [fill; 8]);
+        state.profile = fill;
+        state.when_full = fill;
+        (state.accepted, state.sent) = (count, count);
+        (state.expired, state.displaced) = (count, count);
         state.live = fill;
         hold_all_calls(&state, &format_args!("a state of {fill}"));
     }

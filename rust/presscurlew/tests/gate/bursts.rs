@@ -4,13 +4,13 @@
 
 use crate::broken_states::broken_states;
 use crate::help::{
-    archive_burst, archive_singles, edge_or, fresh, gate_of, gates, hold, hold_burst, offer_of,
-    raw, Answer, Burst, Call, ACCEPTED_MOST, BLANK, EDGE_LIFETIMES, EDGE_STEPS, PROFILES, TIME_END,
-    WAYS, WHEN_FULL,
+    archive, archive_burst, archive_singles, edge_or, fresh, gate_of, gates, hold, hold_burst,
+    offer_of, raw, Answer, Burst, Call, ACCEPTED_MOST, BLANK, EDGE_LIFETIMES, EDGE_STEPS, PROFILES,
+    TIME_END, WAYS, WHEN_FULL,
 };
 use crate::refusals::late;
 use crate::sound_states::sound_state;
-use presscurlew::{sys, Gate, Offer, Refusal, WhenFull};
+use presscurlew::{sys, Gate, Offer, Profile, Refusal, WhenFull};
 use reference::book::Book;
 use reference::burst::burst;
 use reference::log::Record;
@@ -65,9 +65,9 @@ fn states() -> Vec<sys::State> {
         for accepted in [5, ACCEPTED_MOST] {
             let state = raw(&late(profile, way, accepted));
             let mut unsound = state;
-            unsound.tuning.level = 5;
+            unsound.level = 5;
             let mut flagged = state;
-            flagged.last.admitted = 2;
+            flagged.admitted = 2;
             states.extend([state, unsound, flagged]);
         }
         states.push(raw(&fresh(profile, way, 0)));
@@ -226,7 +226,7 @@ fn torn_lengths() {
 #[test]
 fn room_for_the_answers() {
     for state in states() {
-        let mut records = vec![good(0, state.clock.stamp); 20];
+        let mut records = vec![good(0, state.stamp); 20];
         records[3].kind = 9;
         for many in 0..=records.len() {
             let given = bytes(&records[..many]);
@@ -462,7 +462,7 @@ fn an_offer_as_a_record_is_the_single_call() {
     let mut seen = [0; 12];
     for state in states() {
         for step in [0, 1_000, 1_001, 1 << 31] {
-            let stamp = state.clock.stamp.wrapping_add(step);
+            let stamp = state.stamp.wrapping_add(step);
             for priority in WIDE_PRIORITIES {
                 for ontime in WIDE_ONTIMES {
                     for lifetime in [0, 1_000] {
@@ -492,7 +492,14 @@ fn hold_record(state: sys::State, offer: Offer, stamp: u32) -> u8 {
         ontime,
         lifetime,
     } = offer;
-    let single = sys::presscurlew_offer(state, id, priority, ontime, lifetime, stamp);
+    let call = Call::Offer {
+        id,
+        priority,
+        ontime,
+        lifetime,
+        stamp,
+    };
+    let single = archive(state, &call);
     let answer = match single.reply.kind {
         sys::TAKEN => 0,
         _ => single.reply.number as u8,
@@ -534,7 +541,7 @@ fn a_gate_takes_bursts_as_single_offers() {
         for index in 0..10_000 {
             let (mut offers, mut expected) = (vec![], vec![]);
             for _ in 0..rng.below(25) {
-                let (offer, stamp) = any_offer(&mut rng, single.state().clock.stamp);
+                let (offer, stamp) = any_offer(&mut rng, single.state().stamp);
                 offers.push((offer, stamp));
                 expected.push(single.offer(offer, stamp));
             }
@@ -547,7 +554,7 @@ fn a_gate_takes_bursts_as_single_offers() {
             assert_eq!(heapless.offer_burst_into(&offers, &mut places), Ok(()));
             assert_eq!(places.pop(), Some(Err(Refusal::TornLog)));
             assert_eq!(places, expected, "profile {profile}, burst {index}");
-            let stamp = single.state().clock.stamp.wrapping_add(20_000);
+            let stamp = single.state().stamp.wrapping_add(20_000);
             let polled = single.poll(stamp);
             assert_eq!(heapless.poll(stamp), polled);
             assert_eq!(bursting.poll(stamp), polled);
@@ -567,12 +574,15 @@ fn a_gate_takes_bursts_as_single_offers() {
 fn a_burst_without_places_is_refused() {
     let mut rng = Rng::new(0xb045f);
     for count in 1..50 {
-        let mut gate = Gate::new(1, WhenFull::DropOldest, 0).unwrap();
+        let mut gate = Gate::new(Profile::ReactiveA1, WhenFull::DropOldest, 0).unwrap();
         let offers: Vec<_> = (0..count).map(|_| any_offer(&mut rng, 0)).collect();
         let mut places = vec![Err(Refusal::TornLog); count - 1];
         let answer = gate.offer_burst_into(&offers, &mut places);
         assert_eq!(answer, Err(Refusal::NoRoom), "{count} offers");
         assert!(places.iter().all(|place| *place == Err(Refusal::TornLog)));
-        assert_eq!(gate, Gate::new(1, WhenFull::DropOldest, 0).unwrap());
+        assert_eq!(
+            gate,
+            Gate::new(Profile::ReactiveA1, WhenFull::DropOldest, 0).unwrap()
+        );
     }
 }

@@ -2,7 +2,7 @@
 //! due stands here, apart from the reference.
 
 use crate::help::{
-    archive, archive_burst, fresh, gate_of, gates, hold, raw, raw_reply, word, Answer, Call,
+    archive, archive_burst, fresh, gate_of, gates, hold, raw, raw_reply, word, Answer, Call, Turn,
     ACCEPTED_MOST, PROFILES,
 };
 use crate::safe::polled;
@@ -25,27 +25,44 @@ fn waiting(priority: u32, place: u32) -> Packet {
     }
 }
 
+/// Puts a packet into a place of a queue.
+fn put(state: &mut sys::State, priority: u32, place: u32, packet: Packet) {
+    let (k, place) = (priority as usize, place as usize);
+    state.queues[k].packets[place] = sys::Waiting {
+        id: packet.id,
+        ontime: packet.ontime,
+        lifetime: packet.lifetime,
+    };
+    state.arrivals[k][place] = packet.arrival;
+}
+
+/// The packets of a queue from a place on each move one place forward, and the first of them comes last.
+fn rotate(state: &mut sys::State, priority: usize, place: usize) {
+    state.queues[priority].packets[place..].rotate_left(1);
+    state.arrivals[priority][place..].rotate_left(1);
+}
+
+/// Shortens the life of a packet so that it expires 6 µs from now.
+fn shorten(state: &mut sys::State, priority: usize, place: usize) {
+    let arrival = state.arrivals[priority][place];
+    state.queues[priority].packets[place].lifetime = (NOW + 6 - arrival) as u32;
+}
+
 /// A state at 1 s with four full queues, something admitted, and these counts of what has left.
 fn full(profile: u32, way: u32) -> sys::State {
     let mut state = raw(&fresh(profile, way, 500));
-    state.clock.time = NOW;
-    state.last = sys::Last {
-        at: NOW - 3,
-        ontime: 7,
-        admitted: 1,
-    };
-    state.rows.ledger.len = 1;
-    state.rows.ledger.slots[0] = word(0, 7);
-    for (priority, queue) in (0..).zip(&mut state.queues) {
-        queue.len = 5;
-        queue.slots = [0, 1, 2, 3, 4].map(|place| waiting(priority, place));
+    state.time = NOW;
+    (state.last_at, state.last_ontime, state.admitted) = (NOW - 3, 7, 1);
+    state.admissions = 1;
+    state.air[0] = word(0, 7);
+    for priority in 0..4 {
+        state.queues[priority as usize].len = 5;
+        for place in 0..5 {
+            put(&mut state, priority, place, waiting(priority, place));
+        }
     }
-    state.counts = sys::Counts {
-        accepted: 700 + 40 + 9 + 20,
-        sent: 700,
-        expired: 40,
-        displaced: 9,
-    };
+    (state.sent, state.expired, state.displaced) = (700, 40, 9);
+    state.accepted = 700 + 40 + 9 + 20;
     state
 }
 
@@ -71,7 +88,7 @@ fn new_packet(priority: u32, arrival: u64) -> Packet {
 }
 
 fn hold_turn(state: sys::State, call: &Call, due: sys::State, answer: Answer) {
-    let expected = sys::Turn {
+    let expected = Turn {
         state: due,
         reply: raw_reply(&answer),
     };
@@ -86,13 +103,13 @@ fn the_front_one_leaves() {
             for step in [0, 6] {
                 let state = full(profile, sys::DROP_OLDEST);
                 let mut due = state;
-                due.clock.time = NOW + u64::from(step);
-                due.clock.stamp = 500 + step;
-                due.counts.accepted += 1;
-                due.counts.displaced += 1;
-                let queue = &mut due.queues[priority as usize];
-                queue.slots.rotate_left(1);
-                queue.slots[4] = new_packet(priority, due.clock.time);
+                due.time = NOW + u64::from(step);
+                due.stamp = 500 + step;
+                due.accepted += 1;
+                due.displaced += 1;
+                rotate(&mut due, priority as usize, 0);
+                let new = new_packet(priority, due.time);
+                put(&mut due, priority, 4, new);
                 let call = new_offer(priority, 500 + step);
                 hold_turn(state, &call, due, Answer::Taken);
             }
@@ -119,19 +136,13 @@ fn one_that_has_expired_makes_room() {
     for (profile, way) in gates() {
         for place in 0..5 {
             let mut state = full(profile, way);
-            // It expires 6 µs from now.
-            let brief = &mut state.queues[2].slots[place];
-            brief.lifetime = (NOW + 6 - brief.arrival) as u32;
+            shorten(&mut state, 2, place);
             let mut due = state;
-            due.clock = sys::Clock {
-                time: NOW + 6,
-                stamp: 506,
-            };
-            due.counts.accepted += 1;
-            due.counts.expired += 1;
-            let slots = &mut due.queues[2].slots;
-            slots[place..].rotate_left(1);
-            slots[4] = new_packet(2, NOW + 6);
+            (due.time, due.stamp) = (NOW + 6, 506);
+            due.accepted += 1;
+            due.expired += 1;
+            rotate(&mut due, 2, place);
+            put(&mut due, 2, 4, new_packet(2, NOW + 6));
             hold_turn(state, &new_offer(2, 506), due, Answer::Taken);
         }
     }
@@ -142,23 +153,19 @@ fn one_that_has_expired_makes_room() {
 fn one_that_has_expired_elsewhere_makes_no_room() {
     for profile in PROFILES {
         let mut state = full(profile, sys::DROP_OLDEST);
-        let brief = &mut state.queues[3].slots[0];
-        brief.lifetime = (NOW + 6 - brief.arrival) as u32;
+        shorten(&mut state, 3, 0);
         let mut due = state;
-        due.clock = sys::Clock {
-            time: NOW + 6,
-            stamp: 506,
-        };
-        due.counts.accepted += 1;
-        due.counts.expired += 1;
-        due.counts.displaced += 1;
+        (due.time, due.stamp) = (NOW + 6, 506);
+        due.accepted += 1;
+        due.expired += 1;
+        due.displaced += 1;
         due.queues[3].len = 4;
-        due.queues[3].slots.rotate_left(1);
-        due.queues[3].slots[4] = Packet::default();
-        due.queues[2].slots.rotate_left(1);
-        due.queues[2].slots[4] = new_packet(2, NOW + 6);
+        rotate(&mut due, 3, 0);
+        put(&mut due, 3, 4, Packet::default());
+        rotate(&mut due, 2, 0);
+        put(&mut due, 2, 4, new_packet(2, NOW + 6));
         hold_turn(state, &new_offer(2, 506), due, Answer::Taken);
-        state.oldway = sys::REFUSE_NEW;
+        state.when_full = sys::REFUSE_NEW;
         hold_turn(state, &new_offer(2, 506), state, Answer::Refused(8));
     }
 }
@@ -168,16 +175,15 @@ fn one_that_has_expired_elsewhere_makes_no_room() {
 fn a_spent_gate_displaces_nothing() {
     for (profile, way) in gates() {
         let mut state = full(profile, way);
-        let more = ACCEPTED_MOST - state.counts.accepted;
-        state.counts.accepted += more;
-        state.counts.displaced += more;
+        let more = ACCEPTED_MOST - state.accepted;
+        state.accepted += more;
+        state.displaced += more;
         let eight = if way == sys::REFUSE_NEW { 8 } else { 11 };
         for priority in 0..4 {
             let call = new_offer(priority, 506);
             hold_turn(state, &call, state, Answer::Refused(eight));
         }
-        let brief = &mut state.queues[0].slots[0];
-        brief.lifetime = (NOW + 6 - brief.arrival) as u32;
+        shorten(&mut state, 0, 0);
         hold_turn(state, &new_offer(0, 505), state, Answer::Refused(eight));
         hold_turn(state, &new_offer(0, 506), state, Answer::Refused(11));
     }
@@ -223,17 +229,17 @@ fn offers_displace_one_after_the_other() {
         let mut fronts = vec![];
         let mut now = state;
         for id in 1..=6 {
-            fronts.push(now.queues[1].slots[0].id);
-            now = sys::presscurlew_offer(now, id, 1, 300, 60_000, 501).state;
+            fronts.push(now.queues[1].packets[0].id);
+            assert_eq!(sys::offer(&mut now, offer(id), 501).kind, sys::TAKEN);
         }
         assert_eq!(fronts, [20, 21, 22, 23, 24, 1]);
-        assert_eq!(now.queues[1].slots.map(|p| p.id), [2, 3, 4, 5, 6]);
-        assert_eq!(now.counts.displaced, 9 + 6);
+        assert_eq!(now.queues[1].packets.map(|p| p.id), [2, 3, 4, 5, 6]);
+        assert_eq!(now.displaced, 9 + 6);
         let records = [1, 2, 3, 4, 5, 6].map(|id| offer(id).record(501));
         let burst = archive_burst(state, records.as_flattened(), 6);
         assert_eq!((burst.state, burst.answers), (now, vec![0; 6]));
         let mut refusing = state;
-        refusing.oldway = sys::REFUSE_NEW;
+        refusing.when_full = sys::REFUSE_NEW;
         let burst = archive_burst(refusing, records.as_flattened(), 6);
         assert_eq!((burst.state, burst.answers), (refusing, vec![8; 6]));
     }

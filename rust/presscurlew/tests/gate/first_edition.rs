@@ -2,7 +2,8 @@
 //! apart from the reference.
 
 use crate::help::{
-    hold, levels_of, raw, raw_levels, raw_reply, Answer, Call, LOGGED, PROFILES, WAYS,
+    archive_make, hold, hold_no_state, levels_of, raw, raw_if, raw_levels, raw_levels_if,
+    raw_reply, Answer, Call, Turn, LOGGED, PROFILES, WAYS,
 };
 use crate::plain;
 use crate::runs::{made, made_with};
@@ -175,11 +176,11 @@ fn the_last_fifty_loads_are_held() {
         } else {
             assert_eq!(answer, Answer::Refused(4));
         }
-        let held = raw(&next).rows.loads;
+        let held = raw(&next);
         let last = &loads[loads.len().saturating_sub(50)..];
-        assert_eq!(held.len, last.len() as u64);
-        assert_eq!(held.slots[..last.len()], *last);
-        assert!(held.slots[last.len()..].iter().all(|load| *load == 0));
+        assert_eq!(held.load_count, last.len() as u32);
+        assert_eq!(held.loads[..last.len()], *last);
+        assert!(held.loads[last.len()..].iter().all(|load| *load == 0));
         state = next;
     }
     assert!(loads.len() > 100, "only {} taken", loads.len());
@@ -202,15 +203,14 @@ fn the_level_moves_the_least_needed() {
             stamp: 0,
         };
         let (next, _) = after(state, std::slice::from_ref(&call));
-        let loads = raw(&next).rows.loads;
-        let held = &loads.slots[..loads.len as usize];
+        let after = raw(&next);
+        let held = &after.loads[..after.load_count as usize];
         let low = match held.len() {
             0..10 => 0,
             many => *held[many - 10..].iter().min().expect("ten loads"),
         };
         let high = *held.iter().max().expect("the sample's own");
-        let list = raw(&next).levels;
-        let listed = &list.above[..list.len as usize];
+        let listed = &after.thresholds[..after.level_count as usize];
         let reached = |load| listed.iter().filter(|above| **above <= load).count() as u32;
         let due = state.level.clamp(reached(low), reached(high));
         assert_eq!(next.level, due, "{state:?}, {call:?}");
@@ -225,12 +225,17 @@ fn the_level_moves_the_least_needed() {
 fn every_list_at_its_edges() {
     let mut refused = 0;
     for (list, good) in edge_lists() {
+        if raw_levels_if(&list).is_none() {
+            let refused = plain::made_with(5, 0, &list, 9);
+            assert_eq!(refused, plainhost::State::default(), "{list:?}");
+            continue;
+        }
         for way in WAYS {
             let state = made_with(5, way, &list, 9);
             assert_eq!(state.live, good, "{list:?}");
             let plain = plain::made_with(5, way, &list, 9);
             assert_eq!(plain.parted(), Some(raw(&state)));
-            let turn = sys::presscurlew_make(5, way, raw_levels(&list), 9);
+            let turn = archive_make(5, way, &raw_levels(&list), 9);
             let due = match good {
                 true => raw_reply(&Answer::Ready),
                 false => raw_reply(&Answer::Refused(15)),
@@ -238,8 +243,8 @@ fn every_list_at_its_edges() {
             assert_eq!(turn.reply, due, "{list:?}");
         }
         for profile in LOGGED {
-            let none = sys::presscurlew_make(profile, 0, Levels::NONE, 9);
-            let turn = sys::presscurlew_make(profile, 0, raw_levels(&list), 9);
+            let none = archive_make(profile, 0, &Levels::NONE, 9);
+            let turn = archive_make(profile, 0, &raw_levels(&list), 9);
             assert_eq!((turn, turn.reply.kind), (none, sys::READY), "{list:?}");
             plain::made_with(profile, 0, &list, 9);
         }
@@ -302,7 +307,11 @@ fn edge_lists() -> Vec<(levels::Levels, bool)> {
             }
         }
     }
-    for len in [1 << 8, 1 << 16, 1 << 32, (1 << 32) + 1, 1 << 63, u64::MAX] {
+    // Up to 32 bits a count can be said; of more only the plain engine can be told.
+    for len in [1 << 8, 1 << 16, (1 << 16) + 1, 1 << 31, (1 << 32) - 1] {
+        all.push((levels::Levels { len, ..eight() }, false));
+    }
+    for len in [1 << 32, (1 << 32) + 1, 1 << 63, u64::MAX] {
         all.push((levels::Levels { len, ..eight() }, false));
     }
     all
@@ -322,9 +331,13 @@ fn random_lists() {
             plain::made_with(5, way, &littered, 3);
         }
         for (rule, bad) in lists::bad(&list) {
-            let state = made_with(5, 0, &bad, 3);
-            assert_eq!(state, State::default(), "{rule}: {bad:?}");
-            plain::made_with(5, 0, &bad, 3);
+            let refused = plain::made_with(5, 0, &bad, 3);
+            assert_eq!(refused, plainhost::State::default(), "{rule}: {bad:?}");
+            // Of a count above 32 bits only the plain engine can be told.
+            if raw_levels_if(&bad).is_some() {
+                let state = made_with(5, 0, &bad, 3);
+                assert_eq!(state, State::default(), "{rule}: {bad:?}");
+            }
         }
     }
 }
@@ -343,8 +356,8 @@ fn a_bad_profile_or_way_comes_before_a_bad_list() {
             (5, 0, 15),
             (5, 1, 15),
         ] {
-            let turn = sys::presscurlew_make(profile, way, list, 3);
-            let due = sys::Turn {
+            let turn = archive_make(profile, way, &list, 3);
+            let due = Turn {
                 state: sys::State::default(),
                 reply: raw_reply(&Answer::Refused(number)),
             };
@@ -368,18 +381,19 @@ fn a_gate_is_made_of_1_to_8_levels() {
             continue;
         }
         let gate = made.expect("a good list");
-        let list = gate.state().levels;
-        assert_eq!((list.len, list.wait), (u64::from(many), 55_555));
+        let list = gate.state().levels();
+        assert_eq!((list.count, list.base_wait), (many, 55_555));
         for (place, level) in listed.iter().enumerate() {
             assert_eq!(
-                (list.above[place], list.waits[place]),
+                (list.thresholds[place], list.waits[place]),
                 (level.above, level.wait)
             );
         }
         let unused = many as usize..MOST_LEVELS;
-        assert!(list.above[unused.clone()].iter().all(|above| *above == 0));
+        let thresholds = &list.thresholds[unused.clone()];
+        assert!(thresholds.iter().all(|threshold| *threshold == 0));
         assert!(list.waits[unused].iter().all(|wait| *wait == 0));
-        assert_eq!((gate.state().profile, gate.state().oldway), (5, 1));
+        assert_eq!((gate.state().profile, gate.state().when_full), (5, 1));
     }
 }
 
@@ -390,23 +404,17 @@ fn only_profile_5_has_a_list_and_loads() {
         let fresh = made(profile, sys::DROP_OLDEST, 0);
         let others = PROFILES.into_iter().filter(|other| *other != profile);
         for other in others.filter(|other| *other == 5 || profile == 5) {
-            let turn = sys::presscurlew_poll(
-                sys::State {
-                    profile: other,
-                    ..raw(&fresh)
-                },
-                0,
-            );
-            assert_eq!(turn.reply, raw_reply(&Answer::Refused(9)));
+            let state = sys::State {
+                profile: other,
+                ..raw(&fresh)
+            };
+            hold_no_state(&state, &Call::Poll { stamp: 0 }, &"another profile");
         }
-        for (rule, state) in lists::broken(&fresh) {
-            let turn = sys::presscurlew_poll(raw(&state), 0);
-            assert_eq!(
-                turn.reply,
-                raw_reply(&Answer::Refused(9)),
-                "{rule}: {state:?}"
-            );
-            assert_eq!(turn.state, raw(&state));
+        let broken = lists::broken(&fresh).into_iter();
+        // A length above 32 bits can't be said; `broken_states` has those that stand in its place.
+        let said = broken.filter_map(|(rule, state)| Some((rule, raw_if(&state)?)));
+        for (rule, state) in said {
+            hold_no_state(&state, &Call::Poll { stamp: 0 }, &rule);
         }
     }
 }
@@ -421,7 +429,7 @@ fn the_shortest_wait_leaves_25_ms_in_a_second() {
         let (next, answer) = after(state, &[offer(1_000, stamp), Call::Poll { stamp }]);
         assert!(matches!(answer, Answer::Sent(_)), "packet {k}: {answer:?}");
         state = next;
-        let held: u32 = raw(&state).admissions().map(|held| held.ontime).sum();
+        let held: u32 = raw(&state).last_second().map(|held| held.ontime).sum();
         assert!(held <= 25_000, "{held} in a second");
         assert!(k < 24 || held == 25_000, "{held} after packet {k}");
     }

@@ -108,13 +108,13 @@ fn the_latest_load_is_that_of_the_last_sample_taken() {
                 Some(load) if profile == 4 => load,
                 _ => state.latest,
             };
-            let tuning = raw(&next).tuning;
-            assert_eq!(tuning.latest, due, "{busy} of {probes}, profile {profile}");
+            let given = raw(&next);
+            assert_eq!(given.latest, due, "{busy} of {probes}, profile {profile}");
             if profile == 4 {
-                let fresh = raw(&fresh(4, sys::DROP_OLDEST, 0)).tuning;
+                let fresh = raw(&fresh(4, sys::DROP_OLDEST, 0));
                 assert_eq!(
-                    tuning,
-                    sys::Tuning {
+                    given,
+                    sys::State {
                         latest: due,
                         ..fresh
                     }

@@ -9,7 +9,7 @@ use reference::levels::{Levels, Loads};
 use reference::log::{Record, RECORD_BYTES};
 use reference::rng::Rng;
 use reference::rules;
-use reference::state::{sound, Admission, Counts, Ledger, Packet, Queue, State};
+use reference::state::{sound, Admission, Counts, Ledger, Packet, Queue, State, SLOTS};
 use reference::writer;
 
 pub use reference::gate::{Answer, Call};
@@ -62,7 +62,7 @@ pub fn gate_of(profile: u32, way: WhenFull, stamp: u32) -> Gate {
             let levels: Vec<Level> = list.listed().iter().map(level).collect();
             Gate::first_edition(list.wait, &levels, way, stamp)
         }
-        _ => Gate::new(profile, way, stamp),
+        _ => Gate::of_number(profile, way, stamp),
     };
     gate.expect("a good profile, and a good list")
 }
@@ -141,7 +141,8 @@ pub const EDGE_STEPS: [u32; 7] = [
     u32::MAX,
 ];
 
-fn raw_packet(packet: &Packet) -> sys::Packet {
+/// A packet of the reference as the archive has it.
+pub fn raw_packet(packet: &Packet) -> sys::Packet {
     sys::Packet {
         id: packet.id,
         priority: packet.priority,
@@ -151,11 +152,69 @@ fn raw_packet(packet: &Packet) -> sys::Packet {
     }
 }
 
-fn raw_queue(queue: &Queue) -> sys::Queue {
-    sys::Queue {
-        len: queue.len,
-        slots: queue.slots.each_ref().map(raw_packet),
+/// The priority that a place of queue `k` stands for. In the archive's state it isn't stored: a packet that waits is of its
+/// queue's, and an unused place is all zero. Where more are said to wait than there are places nothing is read, and a
+/// place that has numbers is taken for one of the queue's.
+fn due_priority(queue: &Queue, k: u32, place: usize) -> u32 {
+    let unread = queue.len > SLOTS as u64;
+    let numbers = Packet {
+        priority: 0,
+        ..queue.slots[place]
+    };
+    let waits = place < queue.waiting().len() || (unread && numbers != Packet::default());
+    if waits {
+        k
+    } else {
+        0
     }
+}
+
+/// A queue with its arrivals. There is none for a packet of another priority, and none for a length above 32 bits.
+fn raw_queue(queue: &Queue, k: u32) -> Option<(sys::Queue, [u64; SLOTS])> {
+    let mut raw = sys::Queue {
+        len: u32::try_from(queue.len).ok()?,
+        ..sys::Queue::default()
+    };
+    let mut arrivals = [0; SLOTS];
+    for (place, packet) in queue.slots.iter().enumerate() {
+        if packet.priority != due_priority(queue, k, place) {
+            return None;
+        }
+        raw.packets[place] = sys::Waiting {
+            id: packet.id,
+            ontime: packet.ontime,
+            lifetime: packet.lifetime,
+        };
+        arrivals[place] = packet.arrival;
+    }
+    Some((raw, arrivals))
+}
+
+/// A queue of the archive as the reference has it.
+pub fn read_queue(state: &sys::State, k: usize) -> Queue {
+    let raw = &state.queues[k];
+    let mut queue = Queue {
+        len: u64::from(raw.len),
+        ..Queue::default()
+    };
+    for place in 0..SLOTS {
+        let sys::Waiting {
+            id,
+            ontime,
+            lifetime,
+        } = raw.packets[place];
+        queue.slots[place] = Packet {
+            id,
+            priority: 0,
+            ontime,
+            lifetime,
+            arrival: state.arrivals[k][place],
+        };
+    }
+    for place in 0..SLOTS {
+        queue.slots[place].priority = due_priority(&queue, k as u32, place);
+    }
+    queue
 }
 
 /// A word of the archive's ledger: made so long before the last admission, with this on-time.
@@ -174,13 +233,10 @@ pub fn ontime_of(word: u32) -> u32 {
     word & 0xfff
 }
 
-/// The ledger in words, where the last admission was made at `last`. There is none for one that was made later, or too
+/// The words of a ledger, where the last admission was made at `last`. There are none for one that was made later, or too
 /// long before, or with too long an on-time. What stands past the length is no admission: its time goes for an age.
-fn raw_ledger(ledger: &Ledger, last: u64) -> Option<sys::Ledger> {
-    let mut raw = sys::Ledger {
-        len: ledger.len,
-        ..sys::Ledger::default()
-    };
+fn raw_air(ledger: &Ledger, last: u64) -> Option<[u32; sys::MOST_ADMISSIONS]> {
+    let mut air = [0; sys::MOST_ADMISSIONS];
     let held = ledger.held().len();
     for (place, &Admission { at, ontime }) in ledger.slots.iter().enumerate() {
         let age = if place < held {
@@ -191,23 +247,23 @@ fn raw_ledger(ledger: &Ledger, last: u64) -> Option<sys::Ledger> {
         if age >= 1 << 20 || ontime >= 1 << 12 {
             return None;
         }
-        raw.slots[place] = word(age as u32, ontime);
+        air[place] = word(age as u32, ontime);
     }
-    Some(raw)
+    Some(air)
 }
 
 /// The ledger that words say. There is none where a word says more than there was before the last admission.
-fn read_ledger(raw: &sys::Ledger, last: u64) -> Option<Ledger> {
+fn read_ledger(state: &sys::State) -> Option<Ledger> {
     let mut ledger = Ledger {
-        len: raw.len,
+        len: u64::from(state.admissions),
         ..Ledger::default()
     };
     let held = ledger.held().len();
-    for (place, &word) in raw.slots.iter().enumerate() {
+    for (place, &word) in state.air.iter().enumerate() {
         let age = u64::from(age_of(word));
         ledger.slots[place] = Admission {
             at: if place < held {
-                last.checked_sub(age)?
+                state.last_at.checked_sub(age)?
             } else {
                 age
             },
@@ -219,74 +275,62 @@ fn read_ledger(raw: &sys::Ledger, last: u64) -> Option<Ledger> {
 
 /// A list of the reference as the archive has it.
 pub fn raw_levels(levels: &Levels) -> sys::Levels {
-    sys::Levels {
-        len: levels.len,
-        wait: levels.wait,
-        above: levels.above,
-        waits: levels.waits,
-    }
+    raw_levels_if(levels).unwrap_or_else(|| panic!("a count above 32 bits: {levels:?}"))
 }
 
-fn raw_loads(loads: &Loads) -> sys::Loads {
-    sys::Loads {
-        len: loads.len,
-        slots: loads.slots,
-    }
+/// The same, if its count has 32 bits.
+pub fn raw_levels_if(levels: &Levels) -> Option<sys::Levels> {
+    Some(sys::Levels {
+        count: u32::try_from(levels.len).ok()?,
+        base_wait: levels.wait,
+        thresholds: levels.above,
+        waits: levels.waits,
+    })
 }
 
 /// A state of the reference as the archive has it.
 pub fn raw(state: &State) -> sys::State {
-    raw_if(state).unwrap_or_else(|| panic!("a ledger without words: {state:?}"))
+    raw_if(state).unwrap_or_else(|| panic!("the archive's state has no place for it: {state:?}"))
 }
 
-/// The same, if there are words for its ledger. For that of a sound state there are.
+/// The same, if the archive's state has a place for all of it. For a sound state it has. It has none for some ledgers, for
+/// a packet in a queue of another priority, and for a length above 32 bits.
 pub fn raw_if(state: &State) -> Option<sys::State> {
+    let (mut queues, mut arrivals) = ([sys::Queue::default(); 4], [[0; SLOTS]; 4]);
+    for (k, queue) in (0..).zip(&state.queues) {
+        (queues[k as usize], arrivals[k as usize]) = raw_queue(queue, k)?;
+    }
+    let levels = raw_levels_if(&state.levels)?;
     Some(sys::State {
-        queues: state.queues.each_ref().map(raw_queue),
-        levels: raw_levels(&state.levels),
-        rows: sys::Rows {
-            ledger: raw_ledger(&state.ledger, state.at)?,
-            loads: raw_loads(&state.loads),
-        },
-        clock: sys::Clock {
-            time: state.time,
-            stamp: state.stamp,
-        },
-        last: sys::Last {
-            at: state.at,
-            ontime: state.ontime,
-            admitted: u32::from(state.any),
-        },
-        counts: raw_counts(&state.counts),
-        tuning: sys::Tuning {
-            level: state.level,
-            duty: state.duty,
-            smoothed: state.smoothed,
-            kept: state.kept,
-            pairing: u32::from(state.haskept),
-            latest: state.latest,
-        },
+        time: state.time,
+        last_at: state.at,
+        accepted: state.counts.accepted,
+        sent: state.counts.sent,
+        expired: state.counts.expired,
+        displaced: state.counts.displaced,
+        arrivals,
+        stamp: state.stamp,
+        last_ontime: state.ontime,
+        admitted: u32::from(state.any),
+        level: state.level,
+        duty: state.duty,
+        smoothed: state.smoothed,
+        kept: state.kept,
+        pairing: u32::from(state.haskept),
+        latest: state.latest,
+        admissions: u32::try_from(state.ledger.len).ok()?,
+        load_count: u32::try_from(state.loads.len).ok()?,
         profile: state.profile,
-        oldway: state.oldway,
+        when_full: state.oldway,
         live: u32::from(state.live),
+        level_count: levels.count,
+        base_wait: levels.base_wait,
+        queues,
+        air: raw_air(&state.ledger, state.at)?,
+        loads: state.loads.slots,
+        thresholds: levels.thresholds,
+        waits: levels.waits,
     })
-}
-
-fn read_packet(packet: &sys::Packet) -> Packet {
-    Packet {
-        id: packet.id,
-        priority: packet.priority,
-        ontime: packet.ontime,
-        lifetime: packet.lifetime,
-        arrival: packet.arrival,
-    }
-}
-
-fn read_queue(queue: &sys::Queue) -> Queue {
-    Queue {
-        len: queue.len,
-        slots: queue.slots.each_ref().map(read_packet),
-    }
 }
 
 fn read_flag(flag: u32) -> Option<bool> {
@@ -300,47 +344,38 @@ fn read_flag(flag: u32) -> Option<bool> {
 /// A state of the archive as the reference has it, which says whether it is sound. None is where a flag is above 1, or
 /// a word of the ledger says more than there was before the last admission.
 pub fn read_state(state: &sys::State) -> Option<State> {
-    let sys::State {
-        levels,
-        rows: sys::Rows { loads, .. },
-        clock,
-        last,
-        counts,
-        tuning,
-        ..
-    } = *state;
     Some(State {
         live: read_flag(state.live)?,
         profile: state.profile,
-        oldway: state.oldway,
-        stamp: clock.stamp,
-        time: clock.time,
-        level: tuning.level,
-        duty: tuning.duty,
-        smoothed: tuning.smoothed,
-        kept: tuning.kept,
-        haskept: read_flag(tuning.pairing)?,
-        latest: tuning.latest,
-        any: read_flag(last.admitted)?,
-        at: last.at,
-        ontime: last.ontime,
-        ledger: read_ledger(&state.rows.ledger, last.at)?,
+        oldway: state.when_full,
+        stamp: state.stamp,
+        time: state.time,
+        level: state.level,
+        duty: state.duty,
+        smoothed: state.smoothed,
+        kept: state.kept,
+        haskept: read_flag(state.pairing)?,
+        latest: state.latest,
+        any: read_flag(state.admitted)?,
+        at: state.last_at,
+        ontime: state.last_ontime,
+        ledger: read_ledger(state)?,
         loads: Loads {
-            len: loads.len,
-            slots: loads.slots,
+            len: u64::from(state.load_count),
+            slots: state.loads,
         },
         levels: Levels {
-            len: levels.len,
-            wait: levels.wait,
-            above: levels.above,
-            waits: levels.waits,
+            len: u64::from(state.level_count),
+            wait: state.base_wait,
+            above: state.thresholds,
+            waits: state.waits,
         },
-        queues: state.queues.each_ref().map(read_queue),
+        queues: [0, 1, 2, 3].map(|k| read_queue(state, k)),
         counts: Counts {
-            accepted: counts.accepted,
-            sent: counts.sent,
-            expired: counts.expired,
-            displaced: counts.displaced,
+            accepted: state.accepted,
+            sent: state.sent,
+            expired: state.expired,
+            displaced: state.displaced,
         },
     })
 }
@@ -372,33 +407,120 @@ pub fn raw_reply(answer: &Answer) -> sys::Reply {
     }
 }
 
-/// A call on the archive. Words that it is lent stay as they are.
-pub fn archive(state: sys::State, call: &Call) -> sys::Turn {
-    match *call {
+/// What a call leaves: the state after it, and the answer.
+#[derive(Clone, Copy, Debug, PartialEq, Eq)]
+pub struct Turn {
+    pub state: sys::State,
+    pub reply: sys::Reply,
+}
+
+/// The bytes of a state. It has no gaps.
+pub fn bytes_of(state: &sys::State) -> [u8; size_of::<sys::State>()] {
+    // SAFETY: the state is numbers of 4 and 8 bytes, which fill it.
+    unsafe { std::mem::transmute(*state) }
+}
+
+/// A state with a fence around it: what a call writes beside it is seen.
+#[repr(C)]
+struct Fenced {
+    before: [u64; 8],
+    state: sys::State,
+    after: [u64; 8],
+}
+
+const FENCE: [u64; 8] = [0xa5a5_5a5a_c3c3_3c3c; 8];
+
+/// What is done to a state in place, as a function of it. Nothing is written beside it.
+fn in_place<T>(state: &sys::State, act: impl FnOnce(&mut sys::State) -> T) -> (sys::State, T) {
+    let mut fenced = Fenced {
+        before: FENCE,
+        state: *state,
+        after: FENCE,
+    };
+    let answer = act(&mut fenced.state);
+    let Fenced {
+        before,
+        state,
+        after,
+    } = fenced;
+    assert_eq!([before, after], [FENCE; 2], "written beside the state");
+    (state, answer)
+}
+
+/// A make of the archive, over a state of any numbers.
+pub fn archive_make(profile: u32, way: u32, list: &sys::Levels, stamp: u32) -> Turn {
+    let mut littered = sys::State {
+        live: 1,
+        profile: 77,
+        air: [0xdead_beef; sys::MOST_ADMISSIONS],
+        loads: [u32::MAX; sys::MOST_LOADS],
+        thresholds: [5; sys::MOST_LEVELS],
+        waits: [6; sys::MOST_LEVELS],
+        arrivals: [[7; SLOTS]; 4],
+        ..sys::State::default()
+    };
+    littered.queues[1].packets[4].lifetime = 9;
+    let lent = *list;
+    let (state, reply) = in_place(&littered, |state| {
+        sys::make(state, profile, way, &lent, stamp)
+    });
+    assert_eq!(lent, *list, "the lent list was written to");
+    let (again, other) = in_place(&sys::State::default(), |state| {
+        sys::make(state, profile, way, list, stamp)
+    });
+    assert_eq!(
+        (again, other),
+        (state, reply),
+        "a make looked at what was there"
+    );
+    if reply.kind == sys::REFUSED {
+        assert_eq!(bytes_of(&state), [0; size_of::<sys::State>()]);
+    }
+    Turn { state, reply }
+}
+
+/// A call on the archive. Words that it is lent stay as they are, and a refused call leaves every byte of the state so.
+pub fn archive(given: sys::State, call: &Call) -> Turn {
+    let (state, reply) = in_place(&given, |state| match *call {
         Call::SampleWords {
             probes,
             ref words,
             stamp,
         } => {
             let lent = words.clone();
-            let turn = sys::sample_words(state, probes, &lent, stamp);
+            let reply = sys::sample_words(state, probes, &lent, stamp);
             assert_eq!(lent, *words, "lent words were written to");
-            turn
+            reply
         }
         Call::SampleCount {
             busy,
             probes,
             stamp,
-        } => sys::presscurlew_sample_count(state, busy, probes, stamp),
+        } => sys::sample_count(state, busy, probes, stamp),
         Call::Offer {
             id,
             priority,
             ontime,
             lifetime,
             stamp,
-        } => sys::presscurlew_offer(state, id, priority, ontime, lifetime, stamp),
-        Call::Poll { stamp } => sys::presscurlew_poll(state, stamp),
+        } => {
+            let offer = Offer {
+                id,
+                priority,
+                ontime,
+                lifetime,
+            };
+            sys::offer(state, offer, stamp)
+        }
+        Call::Poll { stamp } => sys::poll(state, stamp),
+    });
+    if reply.kind == sys::REFUSED {
+        assert!(
+            bytes_of(&state) == bytes_of(&given),
+            "refused {call:?} changed {given:?} to {state:?}"
+        );
     }
+    Turn { state, reply }
 }
 
 /// Holds one call on a state to the reference: the answer and every field of the next state. `origin` says
@@ -407,27 +529,22 @@ pub fn hold(state: &State, call: &Call, origin: &dyn Display) -> (State, Answer)
     let given = raw(state);
     let (next, answer) = gate::call(*state, call);
     let turn = archive(given, call);
-    let expected = sys::Turn {
+    let expected = Turn {
         state: raw(&next),
         reply: raw_reply(&answer),
     };
     assert_eq!(turn, expected, "{origin}: {call:?} on {state:?}");
-    if turn.reply.kind == sys::REFUSED {
-        assert_eq!(
-            turn.state, given,
-            "{origin}: refused {call:?} changed {state:?}"
-        );
-    }
     (next, answer)
 }
 
 /// Holds a call to the refusal 9, with the state as it was.
 pub fn hold_no_state(state: &sys::State, call: &Call, origin: &dyn Display) {
-    let expected = sys::Turn {
+    let expected = Turn {
         state: *state,
         reply: raw_reply(&Answer::Refused(9)),
     };
     assert_eq!(archive(*state, call), expected, "{origin}: {call:?}");
+    assert!(!sys::is_sound(state), "{origin}: judged sound");
 }
 
 /// Holds a call on any state of the archive to the reference: to its answer and next state where the state is sound, and
@@ -436,6 +553,7 @@ pub fn hold_any(state: &sys::State, call: &Call, origin: &dyn Display) -> bool {
     match read_state(state).filter(sound) {
         Some(read) => {
             assert_eq!(raw(&read), *state, "{origin}: read as {read:?}");
+            assert!(sys::is_sound(state), "{origin}: judged not sound");
             hold(&read, call, origin);
             true
         }
@@ -464,17 +582,23 @@ pub fn archive_burst(state: sys::State, records: &[u8], room: usize) -> Burst {
     let fence = 1 + (records.len() / RECORD_BYTES + room) % 17;
     let fenced = |inner: &[u8]| [&vec![BLANK; fence], inner, &vec![BLANK; fence]].concat();
     let (lent, mut answers) = (fenced(records), fenced(&vec![BLANK; room]));
-    let turn = sys::burst(
-        state,
-        &lent[fence..fence + records.len()],
-        &mut answers[fence..fence + room],
-    );
+    let (next, number) = in_place(&state, |state| {
+        sys::burst(
+            state,
+            &lent[fence..fence + records.len()],
+            &mut answers[fence..fence + room],
+        )
+    });
     assert_eq!(lent, fenced(records), "the records were written to");
     let inner = answers[fence..fence + room].to_vec();
     assert_eq!(answers, fenced(&inner), "written beside the answers");
+    if number != 0 {
+        let kept = bytes_of(&next) == bytes_of(&state);
+        assert!(kept, "a refused burst changed {state:?}");
+    }
     Burst {
-        state: turn.state,
-        number: turn.number,
+        state: next,
+        number,
         answers: inner,
     }
 }

@@ -4,55 +4,56 @@
 use std::fmt::Write;
 use std::mem::{offset_of, size_of};
 
-use presscurlew::sys::{
-    BurstTurn, Clock, Counts, Last, Ledger, Levels, Loads, Packet, Queue, Reply, Rows, State,
-    Tuning, Turn,
-};
+use presscurlew::sys::{Levels, Packet, Queue, Reply, State, Waiting};
 
 const LAYOUT: &str = include_str!("../../../../examples/c/layout.out");
 const PLAIN_LAYOUT: &str = include_str!("../../../../examples/c/plain_layout.out");
 
-/// A line for the struct's size, then one for each field's offset.
+/// A line for the struct's size, then one for each field's offset, behind its name in so many places.
 macro_rules! layout {
-    ($text:ident, $name:literal, $type:ty, $($field:ident),+) => {
+    ($text:ident, $wide:literal, $name:literal, $type:ty, $($field:ident)+) => {
         writeln!($text, "{} {} bytes", $name, size_of::<$type>()).unwrap();
-        $(writeln!($text, "  {:<9} at {:>4}", stringify!($field), offset_of!($type, $field)).unwrap();)+
+        $(
+            let (name, at) = (stringify!($field), offset_of!($type, $field));
+            writeln!($text, "  {name:<0$} at {at:>4}", $wide).unwrap();
+        )+
     };
 }
 
 #[test]
 fn structs_lie_as_c_sees_them() {
     let mut text = String::new();
-    layout!(text, "packet", Packet, id, priority, ontime, lifetime, arrival);
-    layout!(text, "queue", Queue, len, slots);
-    layout!(text, "ledger", Ledger, len, slots);
-    layout!(text, "loads", Loads, len, slots);
-    layout!(text, "levels", Levels, len, wait, above, waits);
-    layout!(text, "rows", Rows, ledger, loads);
-    layout!(text, "clock", Clock, time, stamp);
-    layout!(text, "last", Last, at, ontime, admitted);
-    layout!(text, "counts", Counts, accepted, sent, expired, displaced);
-    layout!(text, "tuning", Tuning, level, duty, smoothed, kept, pairing, latest);
-    layout!(
-        text, "state", State, queues, levels, rows, clock, last, counts, tuning, profile, oldway,
-        live
-    );
-    layout!(text, "reply", Reply, packet, number, kind);
-    layout!(text, "turn", Turn, state, reply);
-    layout!(text, "burst_turn", BurstTurn, state, number);
+    layout!(text, 11, "packet", Packet, id priority ontime lifetime arrival);
+    layout!(text, 11, "waiting", Waiting, id ontime lifetime);
+    layout!(text, 11, "queue", Queue, len packets);
+    layout!(text, 11, "levels", Levels, count base_wait thresholds waits);
+    layout!(text, 11, "reply", Reply, packet number kind);
+    layout!(text, 11, "gate", State,
+        time last_at accepted sent expired displaced
+        arrivals
+        stamp last_ontime admitted level duty smoothed kept pairing latest
+        admissions load_count profile when_full live level_count base_wait
+        queues air loads thresholds waits);
     assert_eq!(text, LAYOUT);
 }
 
 #[test]
 fn structs_of_the_plain_engine_lie_as_c_sees_them() {
-    use plainhost::{BurstTurn, Line, State, Turn};
+    use plainhost::{
+        BurstTurn, Clock, Counts, Last, Ledger, Levels, Line, Loads, State, Tuning, Turn,
+    };
     let mut text = String::new();
-    layout!(text, "line", Line, len, packets);
-    layout!(
-        text, "state", State, line, ledger, loads, levels, clock, last, counts, tuning, profile,
-        oldway, live
-    );
-    layout!(text, "turn", Turn, state, reply);
-    layout!(text, "burst_turn", BurstTurn, state, number);
+    layout!(text, 9, "line", Line, len packets);
+    layout!(text, 9, "ledger", Ledger, len slots);
+    layout!(text, 9, "loads", Loads, len slots);
+    layout!(text, 9, "levels", Levels, len wait above waits);
+    layout!(text, 9, "clock", Clock, time stamp);
+    layout!(text, 9, "last", Last, at ontime admitted);
+    layout!(text, 9, "counts", Counts, accepted sent expired displaced);
+    layout!(text, 9, "tuning", Tuning, level duty smoothed kept pairing latest);
+    layout!(text, 9, "state", State,
+        line ledger loads levels clock last counts tuning profile oldway live);
+    layout!(text, 9, "turn", Turn, state reply);
+    layout!(text, 9, "burst_turn", BurstTurn, state number);
     assert_eq!(text, PLAIN_LAYOUT);
 }

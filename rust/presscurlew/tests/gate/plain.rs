@@ -4,10 +4,12 @@
 use std::fmt::Display;
 
 use crate::help::{
-    archive, archive_burst, levels_of, raw_levels, raw_reply, Answer, Burst, Call, BLANK,
+    archive, archive_burst, archive_make, levels_of, raw, raw_levels_if, raw_packet, raw_reply,
+    read_queue, Answer, Burst, Call, BLANK,
 };
 use plainhost::{Line, State, Turn, PLACES};
 use presscurlew::sys::{self, Packet};
+use reference::gate;
 use reference::levels::Levels;
 use reference::log::{Record, RECORD_BYTES};
 use reference::rng::Rng;
@@ -41,6 +43,16 @@ pub fn plain(state: State, call: &Call) -> Turn {
     }
 }
 
+/// A list of the reference as the plain engine has it.
+fn plain_levels(list: &Levels) -> plainhost::Levels {
+    plainhost::Levels {
+        len: list.len,
+        wait: list.wait,
+        above: list.above,
+        waits: list.waits,
+    }
+}
+
 /// Holds a make of the plain engine to the gate's.
 pub fn made(profile: u32, way: u32, stamp: u32) -> State {
     made_with(profile, way, &levels_of(profile), stamp)
@@ -48,11 +60,21 @@ pub fn made(profile: u32, way: u32, stamp: u32) -> State {
 
 /// The same with a list of levels, good or bad.
 pub fn made_with(profile: u32, way: u32, list: &Levels, stamp: u32) -> State {
-    let gate = sys::presscurlew_make(profile, way, raw_levels(list), stamp);
-    let turn = plainhost::presscurlew_plain_make(profile, way, raw_levels(list), stamp);
+    let turn = plainhost::presscurlew_plain_make(profile, way, plain_levels(list), stamp);
     let origin = format!("make({profile}, {way}, {list:?}, {stamp})");
-    assert_eq!(turn.reply, gate.reply, "{origin}");
-    assert_eq!(turn.state.parted(), Some(gate.state), "{origin}");
+    // A count above 32 bits has no place in the gate's list: what is due is what the reference says.
+    let (state, reply) = match raw_levels_if(list) {
+        Some(list) => {
+            let gate = archive_make(profile, way, &list, stamp);
+            (gate.state, gate.reply)
+        }
+        None => {
+            let (state, answer) = gate::make(profile, way, list, stamp);
+            (raw(&state), raw_reply(&answer))
+        }
+    };
+    assert_eq!(turn.reply, reply, "{origin}");
+    assert_eq!(turn.state.parted(), Some(state), "{origin}");
     turn.state
 }
 
@@ -165,9 +187,10 @@ fn hold_singles(state: &State, records: &[u8], next: &State, answers: &[u8], ori
 /// A line of the packets of a gate's state, in order of arrival. Those that came at the same time stand in any order,
 /// but for those of one priority.
 pub fn lined(gate: &sys::State, rng: &mut Rng) -> State {
-    let mut queues = gate.queues.map(|queue| {
-        let waiting = queue.slots.into_iter().take(queue.len as usize);
-        waiting.collect::<Vec<_>>()
+    let mut queues = [0, 1, 2, 3].map(|k| {
+        let queue = read_queue(gate, k);
+        let waiting = queue.slots.iter().take(queue.len as usize);
+        waiting.map(raw_packet).collect::<Vec<_>>()
     });
     let mut packets: Vec<Packet> = Vec::new();
     while let Some(least) = queues.iter().flatten().map(|packet| packet.arrival).min() {

@@ -8,7 +8,7 @@ use crate::help::{
 };
 use crate::plain::{self, hold_alike, hold_alike_burst};
 use crate::runs::{self, run_list, Caller, Place, Tally, STYLES};
-use plainhost::State;
+use plainhost::{Counts, State, Tuning};
 use presscurlew::sys;
 use reference::log::RECORD_BYTES;
 use reference::rng::Rng;
@@ -62,14 +62,14 @@ fn numbers(state: &mut State) -> Vec<Number<'_>> {
     all.extend(listed.map(Narrow));
     all.extend([&mut clock.time, &mut last.at].map(Wide));
     all.extend([&mut clock.stamp, &mut last.ontime, &mut last.admitted].map(Narrow));
-    let sys::Counts {
+    let Counts {
         accepted,
         sent,
         expired,
         displaced,
     } = counts;
     all.extend([accepted, sent, expired, displaced].map(Wide));
-    let sys::Tuning {
+    let Tuning {
         level,
         duty,
         smoothed,

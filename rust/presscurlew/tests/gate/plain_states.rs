@@ -6,10 +6,10 @@ use std::fmt::Display;
 
 use crate::broken_states::{base, broken_states, TIME};
 use crate::bursts::{any_records, bytes};
-use crate::help::{calls_at, raw, BLANK, EDGE_STEPS, PROFILES};
+use crate::help::{archive, calls_at, raw, Call, BLANK, EDGE_STEPS, PROFILES};
 use crate::plain::{hold_alike, hold_alike_burst, hold_no_state, lined, plain_burst};
 use crate::sound_states::sound_state;
-use plainhost::{Line, State, PLACES};
+use plainhost::{Counts, Levels, Line, State, PLACES};
 use presscurlew::sys::{self, Packet};
 use reference::log::Record;
 use reference::rng::Rng;
@@ -75,7 +75,7 @@ fn with_length(profile: u32, length: usize, first: u32) -> State {
 
 /// The state with as many accepted as the other counts and the line say.
 fn counted(mut state: State) -> State {
-    let sys::Counts {
+    let Counts {
         sent,
         expired,
         displaced,
@@ -187,6 +187,12 @@ impl Broken {
                 *s = counted(*s);
             });
         }
+        // The gate's own lengths have 32 bits.
+        for bad in [1 << 32, (1 << 32) + 1, 1 << 63, u64::MAX] {
+            self.hold("ledger length at most 40", state, |s| s.ledger.len = bad);
+            self.hold("loads at most 50", state, |s| s.loads.len = bad);
+            self.hold("levels at most 8", state, |s| s.levels.len = bad);
+        }
         let accepted = state.counts.accepted;
         for bad in [accepted + 1, accepted - 1, 0, u64::MAX] {
             self.hold("counts add up", state, |s| s.counts.accepted = bad);
@@ -214,7 +220,7 @@ fn each_rule_of_the_list_broken_at_each_place() {
             (length..PLACES).for_each(|place| broken.unused(state, place));
         }
     }
-    assert_eq!(broken.seen.len(), 9, "{:?}", broken.seen);
+    assert_eq!(broken.seen.len(), 12, "{:?}", broken.seen);
 }
 
 /// Five of a priority, and a sixth at every place among the others.
@@ -266,7 +272,7 @@ fn arrivals_that_decrease_between_priorities_are_refused_with_9() {
                 let turn = hold_alike(&swapped, &calls_at(profile, 78)[0], &"swapped");
                 assert_ne!(turn.reply.number, 9);
             }
-            let gate = sys::presscurlew_poll(parts, 78);
+            let gate = archive(parts, &Call::Poll { stamp: 78 });
             assert_ne!((gate.reply.kind, gate.reply.number), (sys::REFUSED, 9));
         }
     }
@@ -304,7 +310,7 @@ fn each_other_rule_broken() {
 /// The state of a refused make, and states of numbers that are all the same.
 #[test]
 fn states_of_no_sense_are_refused_with_9() {
-    let refused = plainhost::presscurlew_plain_make(0, sys::DROP_OLDEST, sys::Levels::NONE, 5);
+    let refused = plainhost::presscurlew_plain_make(0, sys::DROP_OLDEST, Levels::NONE, 5);
     assert_eq!(refused.state, State::default());
     hold_all_calls(&refused.state, &"the all-zero state");
     for fill in [1, 2, 5, 20, 255, u32::MAX] {

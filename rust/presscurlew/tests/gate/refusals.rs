@@ -2,7 +2,7 @@
 //! numbers stand here as a table, apart from the reference.
 
 use crate::help::{
-    archive, first_busy, fresh, gates, raw, raw_reply, Answer, Call, ACCEPTED_MOST, TIME_END,
+    archive, first_busy, fresh, gates, raw, raw_reply, Answer, Call, Turn, ACCEPTED_MOST, TIME_END,
 };
 use presscurlew::sys;
 use reference::rules;
@@ -30,7 +30,7 @@ fn hold_number(state: &sys::State, call: &Call, number: u32) {
     if number == 0 {
         assert_ne!(turn.reply.kind, sys::REFUSED, "{call:?} on {state:?}");
     } else {
-        let expected = sys::Turn {
+        let expected = Turn {
             state: *state,
             reply: raw_reply(&Answer::Refused(number)),
         };
@@ -53,11 +53,11 @@ fn each_place(mut hold: impl FnMut(u32, &sys::State, u32, u32)) {
         for accepted in [5, ACCEPTED_MOST - 1, ACCEPTED_MOST] {
             let state = raw(&late(profile, way, accepted));
             let mut unsound = state;
-            unsound.tuning.level = 5;
+            unsound.level = 5;
             let mut miscounted = state;
-            miscounted.counts.sent += 1;
+            miscounted.sent += 1;
             for (step, number) in STEPS {
-                let stamp = state.clock.stamp.wrapping_add(step);
+                let stamp = state.stamp.wrapping_add(step);
                 hold(profile, &state, stamp, number);
                 hold(profile, &unsound, stamp, 9);
                 hold(profile, &miscounted, stamp, 9);
@@ -76,7 +76,7 @@ fn first(numbers: &[u32]) -> u32 {
 fn offers_are_refused_in_order() {
     each_place(|profile, state, stamp, early| {
         let longest = rules::on_time_max(profile).unwrap();
-        let spent = state.counts.accepted == ACCEPTED_MOST;
+        let spent = state.accepted == ACCEPTED_MOST;
         let eleven = if spent { 11 } else { 0 };
         for (priority, five) in [(0, 0), (1, 0), (3, 0), (4, 5), (u32::MAX, 5)] {
             for (ontime, six) in [
@@ -87,7 +87,7 @@ fn offers_are_refused_in_order() {
                 (u32::MAX, 6),
             ] {
                 for (lifetime, seven) in [(0, 7), (1, 0), (60_000_000, 0), (60_000_001, 7)] {
-                    let refuses = state.oldway == sys::REFUSE_NEW;
+                    let refuses = state.when_full == sys::REFUSE_NEW;
                     let eight = if priority == 1 && refuses { 8 } else { 0 };
                     let call = Call::Offer {
                         id: 0,

@@ -3,9 +3,9 @@
 use std::fmt;
 
 use crate::help::{
-    first_busy, hold, levels_of, random_count, random_words, raw, raw_levels, raw_reply, Answer,
-    Call, ACCEPTED_MOST, EDGE_LIFETIMES, EDGE_ONTIMES, EDGE_PRIORITIES, EDGE_STEPS, PROFILES,
-    TIME_END, WAYS,
+    archive_make, first_busy, hold, levels_of, random_count, random_words, raw, raw_levels,
+    raw_reply, Answer, Call, Turn, ACCEPTED_MOST, EDGE_LIFETIMES, EDGE_ONTIMES, EDGE_PRIORITIES,
+    EDGE_STEPS, PROFILES, TIME_END, WAYS,
 };
 use presscurlew::sys;
 use reference::book::Book;
@@ -304,8 +304,8 @@ pub fn made(profile: u32, way: u32, stamp: u32) -> State {
 /// The same with a list of levels, good or bad.
 pub fn made_with(profile: u32, way: u32, list: &Levels, stamp: u32) -> State {
     let (state, answer) = gate::make(profile, way, list, stamp);
-    let turn = sys::presscurlew_make(profile, way, raw_levels(list), stamp);
-    let expected = sys::Turn {
+    let turn = archive_make(profile, way, &raw_levels(list), stamp);
+    let expected = Turn {
         state: raw(&state),
         reply: raw_reply(&answer),
     };

@@ -1,10 +1,12 @@
 //! `Gate` hands on what the archive answers, and keeps the state.
 
+use crate::broken_states::broken_states;
 use crate::help::{
     fresh, gate_of, random_count, random_words, raw, raw_counts, Answer, Call, EDGE_STEPS,
     PROFILES, WHEN_FULL,
 };
-use presscurlew::{Gate, Offer, Packet, Refusal, WhenFull};
+use crate::sound_states::sound_state;
+use presscurlew::{sys, Gate, Offer, Packet, Profile, Refusal, WhenFull};
 use reference::book::Book;
 use reference::gate;
 use reference::rng::Rng;
@@ -138,8 +140,8 @@ fn ways_have_their_numbers() {
     assert_eq!(WHEN_FULL.map(|way| way as u32), [0, 1]);
     assert_eq!(WhenFull::default(), WhenFull::DropOldest);
     for way in WHEN_FULL {
-        let gate = Gate::new(1, way, 0).unwrap();
-        assert_eq!(gate.state().oldway, way as u32);
+        let gate = Gate::of_number(1, way, 0).unwrap();
+        assert_eq!(gate.state().when_full, way as u32);
     }
 }
 
@@ -147,9 +149,69 @@ fn ways_have_their_numbers() {
 fn bad_profiles_make_no_gate() {
     for way in WHEN_FULL {
         for profile in [0, 6, u32::MAX] {
-            assert_eq!(Gate::new(profile, way, 0), Err(Refusal::BadProfile));
+            let made = Gate::of_number(profile, way, 0);
+            assert_eq!(made, Err(Refusal::BadProfile));
         }
-        assert_eq!(Gate::new(5, way, 0), Err(Refusal::BadList));
+        assert_eq!(Gate::of_number(5, way, 0), Err(Refusal::BadList));
+        let named = Gate::new(Profile::FirstEdition, way, 0);
+        assert_eq!(named, Err(Refusal::BadList));
+    }
+}
+
+/// A gate of each profile that needs no list, by its name and by its number.
+#[test]
+fn a_name_makes_the_gate_of_its_number() {
+    for profile in Profile::ALL {
+        for way in WHEN_FULL {
+            let named = Gate::new(*profile, way, 7);
+            assert_eq!(named, Gate::of_number(profile.number(), way, 7));
+            if let Ok(gate) = named {
+                assert_eq!(gate.state().profile, profile.number());
+            }
+        }
+    }
+}
+
+/// A gate that goes on with a stored state answers as the one that was left, to every call of a run.
+#[test]
+fn a_stored_state_goes_on() {
+    for profile in PROFILES {
+        for way in WHEN_FULL {
+            let mut rng = Rng::new(0x5707e + u64::from(profile));
+            let stamp = rng.next_u32();
+            let mut gate = gate_of(profile, way, stamp);
+            for index in 0..20_000 {
+                let call = any_call(&mut rng, gate.state().stamp);
+                let mut next = Gate::resume(*gate.state()).expect("a gate's own state");
+                let answers = [said(&mut gate, &call), said(&mut next, &call)];
+                let place = format!("profile {profile}, {way:?}, call {index}: {call:?}");
+                assert_eq!(answers[0], answers[1], "{place}");
+                assert_eq!(gate, next, "{place}");
+                if rng.one_in(3) {
+                    gate = next;
+                }
+            }
+        }
+    }
+}
+
+/// A state that is not sound is no gate's, whatever rule it breaks.
+#[test]
+fn a_state_that_is_not_sound_makes_no_gate() {
+    assert_eq!(Gate::resume(sys::State::default()), Err(Refusal::NoState));
+    let mut seen = 0;
+    for (rule, state) in broken_states() {
+        let resumed = Gate::resume(raw(&state));
+        assert_eq!(resumed, Err(Refusal::NoState), "{rule}: {state:?}");
+        seen += 1;
+    }
+    assert!(seen > 10_000, "{seen}");
+    let mut rng = Rng::new(0x5707f);
+    for _ in 0..10_000 {
+        let profile = rng.pick(&PROFILES);
+        let state = raw(&sound_state(&mut rng, profile));
+        let gate = Gate::resume(state).expect("a sound state");
+        assert_eq!(*gate.state(), state);
     }
 }
 

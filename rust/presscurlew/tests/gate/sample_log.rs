@@ -1,7 +1,7 @@
 //! The requirement's own log: make profile 2 at 4294967000, two offers, five polls.
 
-use crate::help::{archive, Call};
-use presscurlew::{sys, Counts, Gate, Offer, WhenFull};
+use crate::help::{archive, archive_make, Call};
+use presscurlew::{sys, Counts, Gate, Offer, Profile, WhenFull};
 
 const LOG: [&str; 8] = [
     "READY",
@@ -54,7 +54,7 @@ fn line(reply: &sys::Reply) -> String {
 
 #[test]
 fn by_the_archive() {
-    let mut turn = sys::presscurlew_make(2, sys::DROP_OLDEST, sys::Levels::NONE, 4_294_967_000);
+    let mut turn = archive_make(2, sys::DROP_OLDEST, &sys::Levels::NONE, 4_294_967_000);
     let mut lines = vec![line(&turn.reply)];
     let stamp = 4_294_967_100;
     let offers = offers().map(
@@ -79,12 +79,12 @@ fn by_the_archive() {
         lines.push(line(&turn.reply));
     }
     assert_eq!(lines, LOG);
-    assert_eq!(turn.state.counts, COUNTS);
+    assert_eq!(turn.state.counts(), COUNTS);
 }
 
 #[test]
 fn by_the_gate() {
-    let mut gate = Gate::new(2, WhenFull::DropOldest, 4_294_967_000).unwrap();
+    let mut gate = Gate::new(Profile::ReactiveA2, WhenFull::DropOldest, 4_294_967_000).unwrap();
     let mut lines = vec!["READY".to_string()];
     for offer in offers() {
         gate.offer(offer, 4_294_967_100).unwrap();

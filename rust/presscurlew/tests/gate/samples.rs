@@ -1,7 +1,7 @@
 //! The load of a sample. Profile 3 keeps that of a first sample, so it can be read from the state. Here probes are counted
 //! one by one, and the load is worked out apart from the reference.
 
-use crate::help::{first_busy, hold, Call, EDGE_PROBES};
+use crate::help::{archive, first_busy, hold, Call, Turn, EDGE_PROBES};
 use presscurlew::sys;
 use reference::rng::Rng;
 use reference::state::State;
@@ -12,7 +12,10 @@ const MOST: u32 = 12_500;
 const SOME_PROBES: [u32; 9] = [1, 3, 63, 64, 65, 1_000, 1_024, 12_480, MOST];
 
 fn fresh() -> sys::State {
-    sys::presscurlew_make(3, sys::DROP_OLDEST, sys::Levels::NONE, 0).state
+    let mut state = sys::State::default();
+    let made = sys::make(&mut state, 3, sys::DROP_OLDEST, &sys::Levels::NONE, 0);
+    assert_eq!(made.kind, sys::READY);
+    state
 }
 
 /// Probe k is bit k mod 64 of word k / 64.
@@ -24,15 +27,26 @@ fn count(probes: u32, words: &[u64]) -> u32 {
 /// What a first sample of this load leaves.
 fn kept(load: u64) -> sys::State {
     let mut state = fresh();
-    state.tuning.pairing = 1;
-    state.tuning.kept = load as u32;
+    state.pairing = 1;
+    state.kept = load as u32;
     state
+}
+
+/// A first sample by count.
+fn counted(busy: u32, probes: u32) -> Turn {
+    let stamp = 0;
+    let call = Call::SampleCount {
+        busy,
+        probes,
+        stamp,
+    };
+    archive(fresh(), &call)
 }
 
 /// Holds a sample by count to the load that is due.
 fn hold_load(busy: u32, probes: u32) {
     let load = 1_000_000 * u64::from(busy) / u64::from(probes);
-    let turn = sys::presscurlew_sample_count(fresh(), busy, probes, 0);
+    let turn = counted(busy, probes);
     let given = (turn.state, turn.reply.kind);
     assert_eq!(given, (kept(load), sys::TAKEN), "{busy} of {probes}");
 }
@@ -41,9 +55,9 @@ fn hold_load(busy: u32, probes: u32) {
 fn hold_words(probes: u32, words: &[u64], origin: &str) {
     let busy = count(probes, words);
     hold_load(busy, probes);
-    let turn = sys::sample_words(fresh(), probes, words, 0);
-    let counted = sys::presscurlew_sample_count(fresh(), busy, probes, 0);
-    assert_eq!(turn, counted, "{origin}, {probes} probes: {words:x?}");
+    let turn = archive(fresh(), &by_words(probes, words.to_vec()));
+    let due = counted(busy, probes);
+    assert_eq!(turn, due, "{origin}, {probes} probes: {words:x?}");
 }
 
 fn by_words(probes: u32, words: Vec<u64>) -> Call {
@@ -81,8 +95,8 @@ fn loads_by_hand() {
         (12_500, 12_500, 1_000_000),
     ] {
         for turn in [
-            sys::presscurlew_sample_count(fresh(), busy, probes, 0),
-            sys::sample_words(fresh(), probes, &first_busy(probes, busy), 0),
+            counted(busy, probes),
+            archive(fresh(), &by_words(probes, first_busy(probes, busy))),
         ] {
             assert_eq!(turn.state, kept(load), "{busy} of {probes}");
         }
@@ -122,7 +136,7 @@ fn each_bit_of_the_last_word() {
             let mut words = vec![0; enough];
             words[enough - 1] |= 1 << bit;
             if bit < used {
-                let turn = sys::sample_words(fresh(), probes, &words, 0);
+                let turn = archive(fresh(), &by_words(probes, words));
                 let load = 1_000_000 / u64::from(probes);
                 assert_eq!(turn.state, kept(load), "bit {bit} of {probes} probes");
                 continue;

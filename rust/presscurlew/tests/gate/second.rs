@@ -6,10 +6,10 @@ use std::collections::VecDeque;
 use crate::broken_states::ledger_states;
 use crate::help::{
     archive, calls_at, first_busy, fresh, hold, hold_burst, raw, raw_reply, word, Answer, Call,
-    PROFILES,
+    Turn, PROFILES,
 };
 use crate::runs::{closed_for, made};
-use presscurlew::{sys, Gate, Offer, WhenFull};
+use presscurlew::{sys, Gate, Offer, Profile, WhenFull};
 use reference::book::Book;
 use reference::ledgers;
 use reference::log::Record;
@@ -263,15 +263,19 @@ fn three_held(profile: u32) -> State {
 /// When they were made, and their on-times.
 const THREE: [(u64, u32); 3] = [(NOW - 990_000, 9), (NOW - 700_000, 8), (NOW - 500_000, 7)];
 
-/// A ledger of these admissions in words, the newest being the last of all.
-fn in_words(held: &[(u64, u32)]) -> sys::Ledger {
-    let mut ledger = sys::Ledger::default();
+/// How many these admissions are, and their words, the newest being the last of all.
+fn in_words(held: &[(u64, u32)]) -> (u32, [u32; sys::MOST_ADMISSIONS]) {
+    let mut air = [0; sys::MOST_ADMISSIONS];
     for (place, &(at, ontime)) in held.iter().enumerate() {
         let (last, _) = held[held.len() - 1];
-        ledger.slots[place] = word((last - at) as u32, ontime);
-        ledger.len += 1;
+        air[place] = word((last - at) as u32, ontime);
     }
-    ledger
+    (held.len() as u32, air)
+}
+
+/// What a state holds of the last second.
+fn held_by(state: &sys::State) -> (u32, [u32; sys::MOST_ADMISSIONS]) {
+    (state.admissions, state.air)
 }
 
 /// A sample changes the ledger by the same rule as offer and poll do.
@@ -324,10 +328,11 @@ fn every_accepted_call_drops_what_has_aged() {
                         // The words of the others now say how long before this one they were made.
                         due.push((NOW + u64::from(step), 1));
                     } else {
-                        assert_eq!(turn.state.last, state.last, "{call:?}");
+                        let last = |s: &sys::State| (s.last_at, s.last_ontime, s.admitted);
+                        assert_eq!(last(&turn.state), last(&state), "{call:?}");
                     }
-                    let ledger = turn.state.rows.ledger;
-                    assert_eq!(ledger, in_words(&due), "profile {profile}, {call:?}");
+                    let held = held_by(&turn.state);
+                    assert_eq!(held, in_words(&due), "profile {profile}, {call:?}");
                 }
             }
         }
@@ -355,7 +360,7 @@ fn a_refused_call_drops_nothing() {
                 let back = Call::Poll {
                     stamp: state.stamp.wrapping_sub(1 + step),
                 };
-                let expected = sys::Turn {
+                let expected = Turn {
                     state: given,
                     reply: raw_reply(&Answer::Refused(2)),
                 };
@@ -387,7 +392,7 @@ fn bursts_drop_what_has_aged() {
         assert_eq!((next, answers), (state, vec![10, 5]));
         let good = [record(2, 0, 300_000)];
         let (next, _) = hold_burst(&state, &bytes(&[&bad[..], &good].concat()), 3, &"one taken");
-        assert_eq!(raw(&next).rows.ledger, in_words(&THREE[2..]));
+        assert_eq!(held_by(&raw(&next)), in_words(&THREE[2..]));
     }
 }
 
@@ -584,7 +589,7 @@ fn from_a_full_ledger_on() {
 /// `Gate` says the same, and shows the ledger.
 #[test]
 fn a_gate_keeps_the_second() {
-    let mut gate = Gate::new(3, WhenFull::RefuseNew, 0).unwrap();
+    let mut gate = Gate::new(Profile::Adaptive, WhenFull::RefuseNew, 0).unwrap();
     (0..500).for_each(|_| gate.sample_count(0, 1_000, 0).unwrap());
     let offer = |id| Offer {
         id,
@@ -600,9 +605,9 @@ fn a_gate_keeps_the_second() {
     }
     let one = |at| sys::Admission { at, ontime: 4_000 };
     let held = [0, 133_334, 266_668, 400_002, 533_336, 666_670, 800_004].map(one);
-    assert!(gate.state().admissions().eq(held));
-    let ledger = in_words(&held.map(|held| (held.at, held.ontime)));
-    assert_eq!((ledger.len, gate.state().rows.ledger), (7, ledger));
+    assert!(gate.state().last_second().eq(held));
+    let words = in_words(&held.map(|held| (held.at, held.ontime)));
+    assert_eq!((words.0, held_by(gate.state())), (7, words));
     gate.sample_count(0, 1_000, 1_000_000).unwrap();
-    assert!(gate.state().admissions().eq(held[1..].iter().copied()));
+    assert!(gate.state().last_second().eq(held[1..].iter().copied()));
 }
