@@ -24,7 +24,8 @@ add-rest c = search needs
 
 loop-holds : tie.Need-loop-holds Inv-loop μ-loop
 loop-holds c = (
-  allow-begun (c .before .args .base) (c .before .args .n) (c .before .args .slots .now) _ _ _ (c .before .pre .1 .1 .0) (c .before .pre .1 .1 .1 .1),
+  allow-begun (c .before .args .base) (c .before .args .n) (c .before .args .slots .now) _ _ _ (c .before .pre .1 .1 .0)
+      (c .before .pre .1 .1 .1 .1),
   omega (arith, c .before .pre .1 .1 .1 .0),
 )
 

@@ -22,7 +22,8 @@ abbrev turn : tie.After-above3 Inv-loop μ-loop → tie.At-loop Inv-loop μ-loop
 turn c = c .before .before .before .before .before .before .before
 
 -- what the walk tells
-walked : (c : tie.After-loop Inv-loop μ-loop) → (let s = c .before .before .before in let ws = take (s .args .n) (s .args .slots .now) in
+walked : (c : tie.After-loop Inv-loop μ-loop) → (let s = c .before .before .before in
+    let ws = take (s .args .n) (s .args .slots .now) in
     (inStep (s .args .first) (s .args .most) ws ≡ eqb (c .before .loop .bits) 0) × (added ws ≡ c .before .loop .air))
 walked c =
     let a = c .before in

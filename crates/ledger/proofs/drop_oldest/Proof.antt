@@ -19,7 +19,7 @@ abbrev μ-loop : tie.MeasureT-loop
 μ-loop n slots₀ k rest i₀ slots i = rest - i
 
 -- something is dropped
-bounds : (c : tie.Else1 Inv-loop μ-loop) → (c .before .before .args .n ≤ places) × (c .before .before .args .k ≤ c .before .before .args .n)
+bounds : (c : tie.Else1 Inv-loop μ-loop) → (let a = c .before .before .args in (a .n ≤ places) × (a .k ≤ a .n))
 bounds c = c .before .before .pre .1 (omega (arith, c .if1 .left))
 
 -- past the loop
