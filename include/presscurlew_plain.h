@@ -34,7 +34,7 @@ extern "C" {
 #endif
 
 /* The number of the layout below, as PRESSCURLEW_LAYOUT is that of presscurlew.h, and that of the archive. */
-#define PRESSCURLEW_PLAIN_LAYOUT 2413862940u
+#define PRESSCURLEW_PLAIN_LAYOUT 3524407202u
 PRESSCURLEW_NODISCARD
 uint32_t presscurlew_plain_layout(void);
 
@@ -62,10 +62,10 @@ typedef struct presscurlew_plain_loads {
 
 /* Profile 5's list of levels, good by the rules of presscurlew_levels; in the state of any other profile all is 0. */
 typedef struct presscurlew_plain_levels {
-    uint64_t len;      /* how many levels there are above level 0: 1 to 8 */
-    uint32_t wait;     /* of level 0, in us */
-    uint32_t above[8]; /* the thresholds of levels 1 to len, as loads */
-    uint32_t waits[8]; /* their waits, in us */
+    uint64_t len;           /* how many levels there are above level 0: 1 to 8 */
+    uint32_t base_wait;     /* the wait of level 0, in us */
+    uint32_t thresholds[8]; /* the thresholds of levels 1 to len, as loads */
+    uint32_t waits[8];      /* their waits, in us */
 } presscurlew_plain_levels;
 
 /* The running time, and the stamp that it was reached with. */
@@ -112,9 +112,9 @@ typedef struct presscurlew_plain_state {
     presscurlew_plain_last last;
     presscurlew_plain_counts counts;
     presscurlew_plain_tuning tuning;
-    uint32_t profile; /* 1 to 5, as it was made; no call changes it */
-    uint32_t oldway;  /* 0 or 1, an enum presscurlew_when_full, as it was made; no call changes it */
-    uint32_t live;    /* 1; 0 in the all-zero state that a refused make hands back */
+    uint32_t profile;   /* 1 to 5, as it was made; no call changes it */
+    uint32_t when_full; /* 0 or 1, an enum presscurlew_when_full, as it was made; no call changes it */
+    uint32_t live;      /* 1; 0 in the all-zero state that a refused make hands back */
 } presscurlew_plain_state;
 
 /* What a call hands back. */
@@ -177,8 +177,8 @@ PRESSCURLEW_FIELD(plain_loads, len, 0);
 PRESSCURLEW_FIELD(plain_loads, slots, 8);
 PRESSCURLEW_SIZE(plain_levels, 80);
 PRESSCURLEW_FIELD(plain_levels, len, 0);
-PRESSCURLEW_FIELD(plain_levels, wait, 8);
-PRESSCURLEW_FIELD(plain_levels, above, 12);
+PRESSCURLEW_FIELD(plain_levels, base_wait, 8);
+PRESSCURLEW_FIELD(plain_levels, thresholds, 12);
 PRESSCURLEW_FIELD(plain_levels, waits, 44);
 PRESSCURLEW_SIZE(plain_clock, 16);
 PRESSCURLEW_FIELD(plain_clock, time, 0);
@@ -212,7 +212,7 @@ PRESSCURLEW_FIELD(plain_state, last, 960);
 PRESSCURLEW_FIELD(plain_state, counts, 976);
 PRESSCURLEW_FIELD(plain_state, tuning, 1008);
 PRESSCURLEW_FIELD(plain_state, profile, 1032);
-PRESSCURLEW_FIELD(plain_state, oldway, 1036);
+PRESSCURLEW_FIELD(plain_state, when_full, 1036);
 PRESSCURLEW_FIELD(plain_state, live, 1040);
 PRESSCURLEW_SIZE(plain_turn, 1088);
 PRESSCURLEW_FIELD(plain_turn, state, 0);
