@@ -6,7 +6,7 @@ PROVED := crates.txt $(shell find crates -name '*.rt' -o -name '*.antt')
 help:
 	@echo 'make demo    a trailer in a jam: the gate at work, the verdict, and a picture'
 	@echo 'make label   the label as a page to print: target/label/label.html'
-	@echo 'make test    the merge gate: proofs, archives, Rust tests, C examples'
+	@echo 'make test    the merge gate: proofs, archives, Rust tests, C and C++ examples'
 	@echo 'make bench   calls, samples and records beside plain Rust, a record beside its call, a burst beside single offers,'
 	@echo '             the plain engine beside the gate'
 	@echo 'make bench-replay   the program replay beside the same in plain Rust'
@@ -15,6 +15,7 @@ help:
 	@echo 'make install   the same below PREFIX (/usr/local), in DESTDIR if that is set'
 	@echo 'make dist      the release as one file, in target/dist: all of that, the examples and the Rust package'
 	@echo 'make measure   what a call takes, written to docs/INTEGRATING.md'
+	@echo 'make doxygen   the pages of the headers, by Doxygen: target/doxygen/html'
 	@echo 'make picture   the picture of the demo, docs/jam.svg'
 
 # The program that answers: the proved one, or without the Rattle kit the second one, which gives the same output.
@@ -127,6 +128,14 @@ measure: lib
 boards: $(ARCHIVES)
 	@boards/run
 
+VERSION = $(shell sed -n 's/^.define PRESSCURLEW_VERSION "\(.*\)"$$/\1/p' include/presscurlew.h)
+
+doxygen:
+	@command -v doxygen >/dev/null || { echo 'make: doxygen is missing: install the package doxygen' >&2; exit 1; }
+	@mkdir -p target/doxygen
+	@{ cat docs/Doxyfile; echo 'PROJECT_NUMBER = $(VERSION)'; } | doxygen -
+	@echo 'Made target/doxygen/html/index.html.'
+
 # rt proves a crate before it writes its archive, and a program before it compiles it.
 NEEDS_KIT = @command -v rt >/dev/null || { echo 'make: $@ comes from the Rattle kit, and there is no rt on PATH: install the kit, and put its bin folder there' >&2; exit 1; }
 
@@ -138,4 +147,4 @@ target/staticlib/lib%.a: $(PROVED)
 	$(NEEDS_KIT)
 	rt staticlib $*
 
-.PHONY: help demo demo-build label picture test bench bench-replay boards lib install dist measure
+.PHONY: help demo demo-build label picture test bench bench-replay boards doxygen lib install dist measure

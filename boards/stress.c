@@ -99,8 +99,8 @@ static void add_plain_state(const presscurlew_plain_state *s) {
     add(s->ledger.len);
     add_words(s->ledger.slots, 40);
     add(s->levels.len);
-    add(s->levels.wait);
-    add_words(s->levels.above, 8);
+    add(s->levels.base_wait);
+    add_words(s->levels.thresholds, 8);
     add_words(s->levels.waits, 8);
     add(s->loads.len);
     add_words(s->loads.slots, 50);
@@ -115,7 +115,7 @@ static void add_plain_state(const presscurlew_plain_state *s) {
     add((uint64_t)s->tuning.level << 32 | s->tuning.duty);
     add((uint64_t)s->tuning.smoothed << 32 | s->tuning.kept);
     add((uint64_t)s->tuning.pairing << 32 | s->tuning.latest);
-    add((uint64_t)s->profile << 32 | s->oldway);
+    add((uint64_t)s->profile << 32 | s->when_full);
     add(s->live);
     note_most(s->ledger.len, s->tuning.level);
 }
@@ -198,8 +198,8 @@ static presscurlew_plain_levels plain_list(const presscurlew_levels *list) {
     presscurlew_plain_levels same = presscurlew_plain_no_list();
 
     same.len = list->count > 8 ? (uint64_t)list->count << below(33) : list->count;
-    same.wait = list->base_wait;
-    memcpy(same.above, list->thresholds, sizeof same.above);
+    same.base_wait = list->base_wait;
+    memcpy(same.thresholds, list->thresholds, sizeof same.thresholds);
     memcpy(same.waits, list->waits, sizeof same.waits);
     return same;
 }
@@ -580,7 +580,7 @@ static void spoil_listing(uint32_t way, uint32_t place) {
     if (way == 3)
         plain.loads.len = gate.load_count = place < 13 ? 50 + place % 2 : place;
     spoil_rows(gate.thresholds, gate.waits, gate.loads, way, place);
-    spoil_rows(plain.levels.above, plain.levels.waits, plain.loads.slots, way, place);
+    spoil_rows(plain.levels.thresholds, plain.levels.waits, plain.loads.slots, way, place);
 }
 
 static void spoil(void) {

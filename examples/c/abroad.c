@@ -10,7 +10,7 @@
 
 #include "presscurlew.h"
 
-enum { PROBES = PRESSCURLEW_MOST_PROBES, ONTIME = 2000, APART_US = 2100000 };
+enum { PROFILE = PRESSCURLEW_PROFILE_HARMONISED, PROBES = PRESSCURLEW_MOST_PROBES, ONTIME = 2000, APART_US = 2100000 };
 
 /* Whether a call was taken; this host says so where one is not. */
 static int taken(presscurlew_reply reply) {
@@ -21,7 +21,7 @@ static int taken(presscurlew_reply reply) {
 
 /* Offers a warning, and polls. */
 static presscurlew_reply warn(presscurlew_gate *gate, uint32_t now) {
-    presscurlew_reply offered = presscurlew_offer(gate, now, 0, ONTIME, 60000000, now);
+    presscurlew_reply offered = presscurlew_offer(gate, now, 0, ONTIME, PRESSCURLEW_MOST_LIFETIME_US, now);
 
     return taken(offered) ? presscurlew_poll(gate, now) : offered;
 }
@@ -35,7 +35,7 @@ static void cycle(presscurlew_gate *gate, uint32_t busy, uint32_t now) {
     presscurlew_reply after = presscurlew_poll(gate, now + closed);
 
     printf("%5" PRIu32 " busy, load %7" PRIu32 ": closed for %7" PRIu32 " us, ", busy, load, closed);
-    printf("wait %7" PRIu32 "\n", presscurlew_wait(4, 0, 600000, ONTIME, load).wait);
+    printf("wait %7" PRIu32 "\n", presscurlew_wait(PROFILE, 0, PRESSCURLEW_LEAST_DUTY, ONTIME, load).wait);
     if (!sampled || first.kind != PRESSCURLEW_SENT || before.number != 1 || after.kind != PRESSCURLEW_SENT)
         puts("      but not so");
 }
@@ -44,10 +44,10 @@ int main(void) {
     static const uint32_t busy[] = {0, 7750, 7751, 7900, 8125, 8750, 12500, 7750};
     static presscurlew_gate gate;
 
-    if (presscurlew_make(&gate, 4, PRESSCURLEW_DROP_OLDEST, NULL, 0).kind != PRESSCURLEW_READY)
+    if (presscurlew_make(&gate, PROFILE, PRESSCURLEW_DROP_OLDEST, NULL, 0).kind != PRESSCURLEW_READY)
         return 1;
     for (uint32_t i = 0; i < sizeof busy / sizeof busy[0]; i++)
         cycle(&gate, busy[i], i * APART_US);
-    printf("%" PRIu64 " warnings sent\n", gate.sent);
+    printf("%" PRIu64 " warnings sent\n", presscurlew_get_sent(&gate));
     return 0;
 }

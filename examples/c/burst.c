@@ -8,7 +8,7 @@
 
 #include "presscurlew.h"
 
-enum { OFFERS = 11 };
+enum { PROFILE = PRESSCURLEW_PROFILE_REACTIVE_A1, OFFERS = 11 };
 
 /* A packet offered, with its stamp. */
 typedef struct offered {
@@ -81,7 +81,7 @@ static void six(const char *what, uint32_t when_full) {
 
     for (uint32_t i = 0; i < 6; i++)
         presscurlew_put_offer(warnings[i], i + 1, 0, 600, 1000000, 0);
-    if (presscurlew_make(&gate, 1, when_full, NULL, 0).kind != PRESSCURLEW_READY ||
+    if (presscurlew_make(&gate, PROFILE, when_full, NULL, 0).kind != PRESSCURLEW_READY ||
         presscurlew_burst(&gate, warnings[0], sizeof warnings, answers, sizeof answers) != 0)
         return;
     printf("%s: the sixth gets %u, there wait", what, answers[5]);
@@ -93,7 +93,7 @@ static void six(const char *what, uint32_t when_full) {
 int main(void) {
     presscurlew_gate fresh;
 
-    if (presscurlew_make(&fresh, 1, PRESSCURLEW_DROP_OLDEST, NULL, 0).kind != PRESSCURLEW_READY)
+    if (presscurlew_make(&fresh, PROFILE, PRESSCURLEW_DROP_OLDEST, NULL, 0).kind != PRESSCURLEW_READY)
         return 1;
     presscurlew_gate bent = fresh;
     bent.level = 5;

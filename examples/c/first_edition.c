@@ -13,7 +13,8 @@
 
 #include "presscurlew.h"
 
-enum { PROBES = 1000, ONTIME = 500, LIFETIME = 50000, STEP_US = 50000, STEPS = 20 };
+enum { PROFILE = PRESSCURLEW_PROFILE_FIRST_EDITION, PROBES = 1000, ONTIME = 500, LIFETIME = 50000 };
+enum { STEP_US = 50000, STEPS = 20 };
 
 static const presscurlew_levels list = {
     3, 60000, {200000, 400000, 700000}, {100000, 300000, 1000000}};
@@ -42,7 +43,7 @@ static void play(presscurlew_gate *gate, uint32_t second) {
         take(presscurlew_offer(gate, now, 0, ONTIME, LIFETIME, now));
         sent += presscurlew_poll(gate, now).kind == PRESSCURLEW_SENT;
     }
-    uint32_t level = gate->level;
+    uint32_t level = presscurlew_get_level(gate);
     uint32_t wait = level == 0 ? gate->base_wait : gate->waits[level - 1];
     printf("%2" PRIu32 " s: load %2" PRIu32 " %%, level %" PRIu32 ", closed for %7" PRIu32 " us, %2" PRIu32 " sent\n",
            second, busy_in(second) / 10, level, ONTIME + wait, sent);
@@ -51,7 +52,7 @@ static void play(presscurlew_gate *gate, uint32_t second) {
 /* A list that breaks a rule makes no gate. */
 static void refuse(const char *why, const presscurlew_levels *bad) {
     presscurlew_gate gate;
-    presscurlew_reply reply = presscurlew_make(&gate, 5, PRESSCURLEW_DROP_OLDEST, bad, 0);
+    presscurlew_reply reply = presscurlew_make(&gate, PROFILE, PRESSCURLEW_DROP_OLDEST, bad, 0);
 
     printf("%s: %s\n", why, presscurlew_refusal_name(reply.number));
 }
@@ -60,10 +61,11 @@ int main(void) {
     static presscurlew_gate gate;
     presscurlew_levels equal = list, hasty = list;
 
-    take(presscurlew_make(&gate, 5, PRESSCURLEW_DROP_OLDEST, &list, 0));
+    take(presscurlew_make(&gate, PROFILE, PRESSCURLEW_DROP_OLDEST, &list, 0));
     for (uint32_t second = 0; second < 15; second++)
         play(&gate, second);
-    printf("%" PRIu32 " loads held, %" PRIu64 " warnings sent\n", gate.load_count, gate.sent);
+    printf("%" PRIu32 " loads held, %" PRIu64 " warnings sent\n", gate.load_count,
+           presscurlew_get_sent(&gate));
     equal.thresholds[1] = equal.thresholds[0];
     refuse("two thresholds alike", &equal);
     hasty.waits[2] = 39999;

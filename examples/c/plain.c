@@ -81,7 +81,7 @@ static int same_admissions(const presscurlew_plain_state *plain, const presscurl
 static int same_state(const presscurlew_plain_state *plain, const presscurlew_gate *gate) {
     return same_waiting(&plain->line, gate) && same_admissions(plain, gate) && same_counts(&plain->counts, gate) &&
            same_tuning(&plain->tuning, gate) && plain->clock.time == gate->time &&
-           plain->clock.stamp == gate->stamp && plain->profile == gate->profile && plain->oldway == gate->when_full &&
+           plain->clock.stamp == gate->stamp && plain->profile == gate->profile && plain->when_full == gate->when_full &&
            plain->live == gate->live;
 }
 

@@ -7,7 +7,7 @@
 #include "presscurlew_plain.h"
 
 #define SIZE(name) printf(#name " %zu bytes\n", sizeof(presscurlew_plain_##name))
-#define FIELD(name, field) printf("  %-9s at %4zu\n", #field, offsetof(presscurlew_plain_##name, field))
+#define FIELD(name, field) printf("  %-10s at %4zu\n", #field, offsetof(presscurlew_plain_##name, field))
 
 static void parts(void) {
     SIZE(line);
@@ -21,8 +21,8 @@ static void parts(void) {
     FIELD(loads, slots);
     SIZE(levels);
     FIELD(levels, len);
-    FIELD(levels, wait);
-    FIELD(levels, above);
+    FIELD(levels, base_wait);
+    FIELD(levels, thresholds);
     FIELD(levels, waits);
     SIZE(clock);
     FIELD(clock, time);
@@ -56,7 +56,7 @@ static void wholes(void) {
     FIELD(state, counts);
     FIELD(state, tuning);
     FIELD(state, profile);
-    FIELD(state, oldway);
+    FIELD(state, when_full);
     FIELD(state, live);
     SIZE(turn);
     FIELD(turn, state);

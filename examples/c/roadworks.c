@@ -21,13 +21,12 @@
 
 #include "presscurlew.h"
 
+enum { PROFILE = PRESSCURLEW_PROFILE_REACTIVE_A1 };
+
 static const uint32_t START = 4294000000, TICK_US = 10000, TICKS = 400;
 
-/* So long it does not poll after each start. What is offered meanwhile waits, and goes after it. */
-static const uint32_t SILENCE_US = 1000000;
-
 /* The radio probes the channel each 8 us, and is asked each 100 ms. */
-enum { PROBES = 12500, WORDS = PRESSCURLEW_WORDS(PROBES) };
+enum { PROBES = PRESSCURLEW_MOST_PROBES, WORDS = PRESSCURLEW_WORDS(PROBES) };
 
 /* What the host sends. */
 typedef struct message {
@@ -51,7 +50,7 @@ enum { BURST = 8 };
 typedef struct host {
     presscurlew_gate gate; /* lent to each call, which changes it */
     uint32_t now;          /* the radio's clock */
-    uint32_t silent_until; /* no poll before: a run before this one may have sent just now */
+    uint32_t silent_until; /* no poll before: a run before this one may have sent just now. What is offered waits */
     uint32_t quiet_until;  /* no use to poll before: the gate said CLOSED */
     unsigned ready;        /* so many messages are to be offered next: */
     uint8_t records[BURST][PRESSCURLEW_RECORD_BYTES];
@@ -114,7 +113,7 @@ static void hear_channel(uint64_t words[WORDS], unsigned busy) {
 }
 
 static void sample(host *h, unsigned busy) {
-    uint32_t level = h->gate.level;
+    uint32_t level = presscurlew_get_level(&h->gate);
     uint64_t words[WORDS];
     uint8_t call[PRESSCURLEW_RECORD_BYTES];
 
@@ -124,8 +123,8 @@ static void sample(host *h, unsigned busy) {
     note(h, &reply);
     /* The wait may be another one now, so the next poll is not put off any longer. */
     h->quiet_until = h->now;
-    if (h->gate.level != level)
-        printf("%5" PRIu32 " ms  level %" PRIu32 "\n", since_start_ms(h), h->gate.level);
+    if (presscurlew_get_level(&h->gate) != level)
+        printf("%5" PRIu32 " ms  level %" PRIu32 "\n", since_start_ms(h), presscurlew_get_level(&h->gate));
 }
 
 /* Makes a message ready to be offered. There is room for all that comes in a tick. */
@@ -167,7 +166,7 @@ static void offer_burst(host *h) {
 
 /* Puts a packet on air. */
 static void transmit(host *h, const presscurlew_packet *packet) {
-    uint64_t waited = h->gate.time - packet->arrival;
+    uint64_t waited = presscurlew_get_time(&h->gate) - packet->arrival;
 
     h->air_time += packet->ontime;
     printf("%5" PRIu32 " ms  %s %" PRIu32 " sent, it waited %" PRIu64 " ms\n", since_start_ms(h),
@@ -195,7 +194,7 @@ static void poll(host *h) {
 }
 
 /* Whether `moment` has come; on a clock that wraps, only differences tell. */
-static int has_come(const host *h, uint32_t moment) { return h->now - moment < UINT32_C(0x80000000); }
+static int has_come(const host *h, uint32_t moment) { return h->now - moment <= PRESSCURLEW_MOST_STEP_US; }
 
 static void tick(host *h, unsigned t) {
     if (t % 10 == 0)
@@ -214,21 +213,15 @@ static void tick(host *h, unsigned t) {
     h->now += TICK_US;
 }
 
-static uint32_t waiting(const presscurlew_gate *gate) {
-    uint32_t sum = 0;
-
-    for (int priority = 0; priority < 4; priority++)
-        sum += gate->queues[priority].len;
-    return sum;
-}
-
 /* What the host has counted, and what the gate has: accepted is sent, expired, displaced and waiting together. */
 static void sum_up(const host *h) {
     const presscurlew_gate *gate = &h->gate;
 
     printf("%" PRIu32 " offered, %" PRIu32 " refused; %" PRIu32 " us on air\n", h->offered, h->refused, h->air_time);
-    printf("%" PRIu64 " accepted: %" PRIu64 " sent, %" PRIu64 " expired, ", gate->accepted, gate->sent, gate->expired);
-    printf("%" PRIu64 " displaced, %" PRIu32 " waiting\n", gate->displaced, waiting(gate));
+    printf("%" PRIu64 " accepted: %" PRIu64 " sent, ", presscurlew_get_accepted(gate), presscurlew_get_sent(gate));
+    printf("%" PRIu64 " expired, ", presscurlew_get_expired(gate));
+    printf("%" PRIu64 " displaced, ", presscurlew_get_displaced(gate));
+    printf("%" PRIu32 " waiting\n", presscurlew_get_waiting(gate));
 }
 
 /* The file of an argument, NULL if there is none. */
@@ -250,14 +243,14 @@ static int make(host *h) {
     uint8_t call[PRESSCURLEW_RECORD_BYTES];
 
     /* The map's pieces all differ: none that was taken may be displaced, and one that finds no room is told. */
-    record_call(h, presscurlew_write_make(1, PRESSCURLEW_REFUSE_NEW, h->now, call, sizeof call, 0), call);
-    presscurlew_reply reply = presscurlew_make(&h->gate, 1, PRESSCURLEW_REFUSE_NEW, NULL, h->now);
+    record_call(h, presscurlew_write_make(PROFILE, PRESSCURLEW_REFUSE_NEW, h->now, call, sizeof call, 0), call);
+    presscurlew_reply reply = presscurlew_make(&h->gate, PROFILE, PRESSCURLEW_REFUSE_NEW, NULL, h->now);
     note(h, &reply);
     return reply.kind == PRESSCURLEW_READY;
 }
 
 int main(int argc, char **argv) {
-    host h = {.now = START, .silent_until = START + SILENCE_US, .quiet_until = START};
+    host h = {.now = START, .silent_until = START + PRESSCURLEW_SILENCE_US, .quiet_until = START};
 
     if (presscurlew_layout() != PRESSCURLEW_LAYOUT) {
         fputs("the archive is not of this presscurlew.h\n", stderr);

@@ -4,4 +4,4 @@ use Prim.Native.Nat.{ℕ}
 
 -- the check sum of the sizes and offsets of all structs, and of the types of all calls, as C sees them
 abbrev pub layout : ℕ
-layout = 2413862940
+layout = 3524407202

@@ -3,7 +3,7 @@
 ghost use mathlib.Core.Path.{_≡_};
 ghost use Rattle.plainhost.specs.Edition.{layout};
 
-pub const LAYOUT: u32 = 2413862940;
+pub const LAYOUT: u32 = 3524407202;
 
 // The number of the layout of all that goes into the calls and comes out.
 #[no_mangle]

@@ -167,9 +167,9 @@ pub struct Levels {
     /// How many levels there are above level 0, 1 to 8.
     pub len: u64,
     /// The wait of level 0 in µs.
-    pub wait: u32,
+    pub base_wait: u32,
     /// The thresholds of levels 1 to `len`, as loads.
-    pub above: [u32; MOST_LEVELS],
+    pub thresholds: [u32; MOST_LEVELS],
     /// Their waits in µs.
     pub waits: [u32; MOST_LEVELS],
 }
@@ -178,8 +178,8 @@ impl Levels {
     /// No list, for profiles 1 to 4.
     pub const NONE: Levels = Levels {
         len: 0,
-        wait: 0,
-        above: [0; MOST_LEVELS],
+        base_wait: 0,
+        thresholds: [0; MOST_LEVELS],
         waits: [0; MOST_LEVELS],
     };
 }
@@ -188,8 +188,8 @@ impl From<sys::Levels> for Levels {
     fn from(list: sys::Levels) -> Levels {
         Levels {
             len: u64::from(list.count),
-            wait: list.base_wait,
-            above: list.thresholds,
+            base_wait: list.base_wait,
+            thresholds: list.thresholds,
             waits: list.waits,
         }
     }
@@ -262,7 +262,7 @@ pub struct State {
     /// 1 to 5; no call changes it.
     pub profile: u32,
     /// [`sys::DROP_OLDEST`] or [`sys::REFUSE_NEW`]; no call changes it.
-    pub oldway: u32,
+    pub when_full: u32,
     /// 1; 0 in the all-zero state that a refused make hands back.
     pub live: u32,
 }
@@ -292,14 +292,14 @@ impl State {
             admissions: u32::try_from(self.ledger.len).ok()?,
             load_count: u32::try_from(self.loads.len).ok()?,
             profile: self.profile,
-            when_full: self.oldway,
+            when_full: self.when_full,
             live: self.live,
             level_count: u32::try_from(self.levels.len).ok()?,
-            base_wait: self.levels.wait,
+            base_wait: self.levels.base_wait,
             queues,
             air: self.ledger.slots,
             loads: self.loads.slots,
-            thresholds: self.levels.above,
+            thresholds: self.levels.thresholds,
             waits: self.levels.waits,
         })
     }
@@ -341,7 +341,7 @@ impl State {
                 latest: gate.latest,
             },
             profile: gate.profile,
-            oldway: gate.when_full,
+            when_full: gate.when_full,
             live: gate.live,
         }
     }
@@ -370,7 +370,7 @@ pub struct BurstTurn {
 }
 
 /// The number of the layout that this package declares; an archive of another one must not be called.
-pub const LAYOUT: u32 = 2_413_862_940;
+pub const LAYOUT: u32 = 3_524_407_202;
 
 // Safe to call, but for those that take pointers: any numbers and any state at all are answered.
 #[allow(unsafe_code)]

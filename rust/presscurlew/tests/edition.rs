@@ -1,4 +1,4 @@
-//! Header, package and archive are of one edition: version, layout number, refusals and profiles.
+//! Header, package and archive are of one edition: version, layout number, limits, refusals and profiles.
 
 use std::collections::BTreeMap;
 
@@ -116,6 +116,48 @@ fn refusals_of_the_rules_have_the_header_s_numbers_and_names() {
             listed.get(&number).map_or("unknown", String::as_str),
             "{number}"
         );
+    }
+}
+
+/// A name of Rust, as `ReactiveA1`, as C spells it: `REACTIVE-A1`.
+fn spelled_in_c(name: &str) -> String {
+    let mut spelled = String::new();
+    for c in name.chars() {
+        if c.is_ascii_uppercase() && !spelled.is_empty() {
+            spelled.push('-');
+        }
+        spelled.push(c.to_ascii_uppercase());
+    }
+    spelled
+}
+
+#[test]
+fn profiles_have_the_header_s_numbers_and_names() {
+    let named = |profile: &Profile| {
+        let name = spelled_in_c(&format!("{profile:?}"));
+        (profile.number(), format!("PROFILE-{name}"))
+    };
+    let all: BTreeMap<_, _> = Profile::ALL.iter().map(named).collect();
+    assert_eq!(all, constants("presscurlew_profile"));
+}
+
+/// `examples/c/limits.c` holds all limits of the header to the archive.
+#[test]
+fn limits_are_the_header_s() {
+    let limits = [
+        ("PRIORITIES", sys::State::default().queues.len()),
+        ("MOST_WAITING", sys::MOST_WAITING),
+        ("MOST_PROBES", sys::MOST_PROBES as usize),
+        ("MOST_WORDS", sys::MOST_WORDS),
+        ("MOST_LEVELS", sys::MOST_LEVELS),
+        ("MOST_LOADS", sys::MOST_LOADS),
+        ("MOST_ADMISSIONS", sys::MOST_ADMISSIONS),
+        ("RECORD_BYTES", sys::RECORD_BYTES),
+        ("RECORD_OFFER", usize::from(sys::RECORD_OFFER)),
+    ];
+    for (name, number) in limits {
+        let header = defined(HEADER, &format!("PRESSCURLEW_{name}"));
+        assert_eq!(header, number.to_string(), "{name}");
     }
 }
 

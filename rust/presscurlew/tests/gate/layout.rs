@@ -43,17 +43,17 @@ fn structs_of_the_plain_engine_lie_as_c_sees_them() {
         BurstTurn, Clock, Counts, Last, Ledger, Levels, Line, Loads, State, Tuning, Turn,
     };
     let mut text = String::new();
-    layout!(text, 9, "line", Line, len packets);
-    layout!(text, 9, "ledger", Ledger, len slots);
-    layout!(text, 9, "loads", Loads, len slots);
-    layout!(text, 9, "levels", Levels, len wait above waits);
-    layout!(text, 9, "clock", Clock, time stamp);
-    layout!(text, 9, "last", Last, at ontime admitted);
-    layout!(text, 9, "counts", Counts, accepted sent expired displaced);
-    layout!(text, 9, "tuning", Tuning, level duty smoothed kept pairing latest);
-    layout!(text, 9, "state", State,
-        line ledger loads levels clock last counts tuning profile oldway live);
-    layout!(text, 9, "turn", Turn, state reply);
-    layout!(text, 9, "burst_turn", BurstTurn, state number);
+    layout!(text, 10, "line", Line, len packets);
+    layout!(text, 10, "ledger", Ledger, len slots);
+    layout!(text, 10, "loads", Loads, len slots);
+    layout!(text, 10, "levels", Levels, len base_wait thresholds waits);
+    layout!(text, 10, "clock", Clock, time stamp);
+    layout!(text, 10, "last", Last, at ontime admitted);
+    layout!(text, 10, "counts", Counts, accepted sent expired displaced);
+    layout!(text, 10, "tuning", Tuning, level duty smoothed kept pairing latest);
+    layout!(text, 10, "state", State,
+        line ledger loads levels clock last counts tuning profile when_full live);
+    layout!(text, 10, "turn", Turn, state reply);
+    layout!(text, 10, "burst_turn", BurstTurn, state number);
     assert_eq!(text, PLAIN_LAYOUT);
 }

@@ -47,8 +47,8 @@ pub fn plain(state: State, call: &Call) -> Turn {
 fn plain_levels(list: &Levels) -> plainhost::Levels {
     plainhost::Levels {
         len: list.len,
-        wait: list.wait,
-        above: list.above,
+        base_wait: list.wait,
+        thresholds: list.above,
         waits: list.waits,
     }
 }

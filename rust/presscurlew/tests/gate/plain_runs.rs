@@ -34,7 +34,7 @@ fn numbers(state: &mut State) -> Vec<Number<'_>> {
         counts,
         tuning,
         profile,
-        oldway,
+        when_full,
         live,
     } = state;
     let lengths = [
@@ -57,8 +57,8 @@ fn numbers(state: &mut State) -> Vec<Number<'_>> {
     }
     all.extend(ledger.slots.iter_mut().map(Narrow));
     all.extend(loads.slots.iter_mut().map(Narrow));
-    all.push(Narrow(&mut levels.wait));
-    let listed = levels.above.iter_mut().chain(&mut levels.waits);
+    all.push(Narrow(&mut levels.base_wait));
+    let listed = levels.thresholds.iter_mut().chain(&mut levels.waits);
     all.extend(listed.map(Narrow));
     all.extend([&mut clock.time, &mut last.at].map(Wide));
     all.extend([&mut clock.stamp, &mut last.ontime, &mut last.admitted].map(Narrow));
@@ -78,7 +78,7 @@ fn numbers(state: &mut State) -> Vec<Number<'_>> {
         latest,
     } = tuning;
     all.extend([level, duty, smoothed, kept, pairing, latest].map(Narrow));
-    all.extend([profile, oldway, live].map(Narrow));
+    all.extend([profile, when_full, live].map(Narrow));
     all
 }
 

@@ -328,7 +328,7 @@ fn states_of_no_sense_are_refused_with_9() {
                 packets: [packet; PLACES],
             },
             profile: fill,
-            oldway: fill,
+            when_full: fill,
             live: fill,
             ..State::default()
         };
