@@ -54,14 +54,16 @@ extern crate alloc;
 extern crate std;
 
 pub mod floats;
-pub mod gate;
-pub mod profile;
+mod gate;
+mod profile;
 #[cfg(feature = "std")]
-pub mod recorder;
+mod recorder;
 pub mod rules;
+mod state;
 pub mod sys;
 
-pub use gate::{Answer, Counts, Gate, Level, Offer, Packet, Refusal, WhenFull};
+pub use gate::{Answer, Gate, Offer, Refusal, WhenFull};
 pub use profile::Profile;
 #[cfg(feature = "std")]
 pub use recorder::{RecordError, Recorder};
+pub use state::{Admission, Counts, Level, Packet, Queue, State, Waiting};

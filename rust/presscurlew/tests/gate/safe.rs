@@ -6,7 +6,7 @@ use crate::help::{
     PROFILES, WHEN_FULL,
 };
 use crate::sound_states::sound_state;
-use presscurlew::{sys, Gate, Offer, Packet, Profile, Refusal, WhenFull};
+use presscurlew::{Gate, Offer, Packet, Profile, Refusal, State, WhenFull};
 use reference::book::Book;
 use reference::gate;
 use reference::rng::Rng;
@@ -198,7 +198,7 @@ fn a_stored_state_goes_on() {
 /// A state that is not sound is no gate's, whatever rule it breaks.
 #[test]
 fn a_state_that_is_not_sound_makes_no_gate() {
-    assert_eq!(Gate::resume(sys::State::default()), Err(Refusal::NoState));
+    assert_eq!(Gate::resume(State::default()), Err(Refusal::NoState));
     let mut seen = 0;
     for (rule, state) in broken_states() {
         let resumed = Gate::resume(raw(&state));
