@@ -6,7 +6,7 @@ use core::error::Error;
 use core::fmt;
 
 use crate::profile::Profile;
-use crate::state::{Counts, Level, Packet, State};
+use crate::state::{Counts, Level, Packet, Queue, State};
 use crate::sys;
 
 /// The gate of one channel: it takes samples and packets, and says when a packet may go.
@@ -51,9 +51,96 @@ use crate::sys;
 /// assert_eq!((counts.accepted, counts.sent, counts.expired), (2, 2, 0));
 /// # Ok::<(), Refusal>(())
 /// ```
-#[derive(Debug, PartialEq, Eq)]
+#[derive(PartialEq, Eq)]
 pub struct Gate {
     state: State,
+}
+
+/// At most a screenful: what steers the gate, what was counted, the identifiers that wait by priority, the last admission,
+/// and what was admitted in the last second. [`Gate::state`] has every number.
+///
+/// ```
+/// use presscurlew::{Answer, Gate, Offer, Profile, Refusal, WhenFull};
+///
+/// let mut gate = Gate::new(Profile::ReactiveA1, WhenFull::DropOldest, 0)?;
+/// for (id, priority) in [(7, 0), (8, 0), (9, 2)] {
+///     gate.offer(Offer { id, priority, ontime: 600, lifetime: 2_000_000 }, 1_000)?;
+/// }
+/// assert!(matches!(gate.poll(1_000_000)?, Answer::Sent(_)));
+/// let shown = "\
+/// Gate {
+///     profile: ReactiveA1,
+///     when_full: DropOldest,
+///     time: 1000000,
+///     stamp: 1000000,
+///     level: 0,
+///     counts: Counts { accepted: 3, sent: 1, expired: 0, displaced: 0 },
+///     waiting: {
+///         0: [8],
+///         2: [9],
+///     },
+///     last: Some(Admission { at: 1000000, ontime: 600 }),
+///     last_second: { admissions: 1, ontime: 600 },
+///     ..
+/// }";
+/// assert_eq!(format!("{gate:#?}"), shown);
+/// # Ok::<(), Refusal>(())
+/// ```
+impl fmt::Debug for Gate {
+    fn fmt(&self, f: &mut fmt::Formatter<'_>) -> fmt::Result {
+        let state = &self.state;
+        let profile = Profile::try_from(state.profile);
+        let name: &dyn fmt::Debug = match &profile {
+            Ok(profile) => profile,
+            // No sound state has another.
+            Err(_) => &state.profile,
+        };
+        let when_full = match state.when_full {
+            sys::DROP_OLDEST => WhenFull::DropOldest,
+            _ => WhenFull::RefuseNew,
+        };
+        let mut shown = f.debug_struct("Gate");
+        shown
+            .field("profile", name)
+            .field("when_full", &when_full)
+            .field("time", &state.time)
+            .field("stamp", &state.stamp);
+        match profile {
+            Ok(Profile::Adaptive) => shown
+                .field("duty", &state.duty)
+                .field("smoothed", &state.smoothed),
+            Ok(Profile::Harmonised) => shown.field("latest", &state.latest),
+            _ => shown.field("level", &state.level),
+        };
+        let admissions = state.last_second().count();
+        let ontime: u32 = state.last_second().map(|one| one.ontime).sum();
+        shown
+            .field("counts", &format_args!("{:?}", state.counts()))
+            .field("waiting", &Identifiers(&state.queues))
+            .field("last", &format_args!("{:?}", state.last_admission()))
+            .field(
+                "last_second",
+                &format_args!("{{ admissions: {admissions}, ontime: {ontime} }}"),
+            )
+            .finish_non_exhaustive()
+    }
+}
+
+/// Shows the identifiers that wait, a line for each priority that has some.
+struct Identifiers<'a>(&'a [Queue; 4]);
+
+impl fmt::Debug for Identifiers<'_> {
+    fn fmt(&self, f: &mut fmt::Formatter<'_>) -> fmt::Result {
+        let mut shown = f.debug_map();
+        for (priority, queue) in self.0.iter().enumerate() {
+            let ids = queue.packets.map(|packet| packet.id);
+            match queue.waiting().len() {
+                0 => continue,
+                len => shown.entry(&priority, &format_args!("{:?}", &ids[..len])),
+            };
+        }
+        shown.finish()
+    }
 }
 
 /// What a gate does with an offer that finds 5 unexpired packets of its priority.

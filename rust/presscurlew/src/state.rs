@@ -40,6 +40,15 @@ pub struct Queue {
     pub packets: [Waiting; MOST_WAITING],
 }
 
+impl Queue {
+    /// The packets that wait, the oldest first. Of a state that is not sound they mean nothing: a count above 5 is read as
+    /// 5.
+    pub fn waiting(&self) -> &[Waiting] {
+        let places = self.packets.len();
+        &self.packets[..places.min(self.len as usize)]
+    }
+}
+
 /// What the distance is multiplied by in a word of [`State::air`]: more than any on-time.
 const WORD_STEP: u32 = 4_096;
 
@@ -204,6 +213,14 @@ impl State {
         })
     }
 
+    /// The last admission, however long ago, if anything was admitted.
+    pub fn last_admission(&self) -> Option<Admission> {
+        (self.admitted != 0).then_some(Admission {
+            at: self.last_at,
+            ontime: self.last_ontime,
+        })
+    }
+
     /// What was counted.
     pub fn counts(&self) -> Counts {
         Counts {
@@ -244,5 +261,18 @@ mod tests {
         assert!(state.last_second().eq([oldest; MOST_ADMISSIONS]));
         state.admissions = 0;
         assert_eq!(state.last_second().next(), None);
+    }
+
+    #[test]
+    fn packets_of_any_queue_can_be_read() {
+        let packets = [1, 2, 3, 4, 5].map(|id| Waiting {
+            id,
+            ontime: 400,
+            lifetime: 60_000,
+        });
+        for (len, due) in [(0, 0), (1, 1), (4, 4), (5, 5), (6, 5), (u32::MAX, 5)] {
+            let queue = Queue { len, packets };
+            assert_eq!(queue.waiting(), &packets[..due]);
+        }
     }
 }

@@ -12,7 +12,7 @@ use reference::gate;
 use reference::rng::Rng;
 
 /// What a call on a `Gate` says, in the reference's words.
-fn said(gate: &mut Gate, call: &Call) -> Answer {
+pub fn said(gate: &mut Gate, call: &Call) -> Answer {
     let answer = match *call {
         Call::SampleWords {
             probes,
@@ -69,7 +69,8 @@ pub fn polled(answer: presscurlew::Answer) -> Answer {
     }
 }
 
-fn any_call(rng: &mut Rng, last: u32) -> Call {
+/// Any call after the stamp `last`, most often one that is taken.
+pub fn any_call(rng: &mut Rng, last: u32) -> Call {
     let step = if rng.one_in(30) {
         rng.pick(&EDGE_STEPS)
     } else {
