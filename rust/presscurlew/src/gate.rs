@@ -443,7 +443,8 @@ impl Gate {
         Gate::made(profile, when_full, &sys::Levels::NONE, stamp)
     }
 
-    /// A gate that goes on with a stored state: the one that the last call before a restart left ([`Gate::state`]). Then
+    /// A gate that goes on with a stored state: the one that the last call before a restart left ([`Gate::state`],
+    /// [`State::to_bytes`], [`State::from_bytes`]). Then
     /// nothing was restarted, all that holds of one gate holds on, and there is no silence to keep.
     ///
     /// That needs the radio's clock to have run on, for less than 2,147,483,648 µs, and the state to be that of the last
@@ -752,8 +753,8 @@ impl Gate {
         self.state.counts()
     }
 
-    /// The state, to look at and to store: level, duty, what waits, the running time, the admissions of the last second.
-    /// A copy of it can be gone on with after a restart ([`Gate::resume`]).
+    /// The state, to look at and to store ([`State::to_bytes`]): level, duty, what waits, the running time, the admissions
+    /// of the last second. A copy of it can be gone on with after a restart ([`Gate::resume`]).
     ///
     /// ```
     /// use presscurlew::{Gate, Profile, WhenFull};

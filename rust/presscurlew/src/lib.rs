@@ -60,6 +60,7 @@ mod profile;
 mod recorder;
 pub mod rules;
 mod state;
+mod stored;
 pub mod sys;
 
 pub use gate::{Answer, Gate, Offer, Refusal, WhenFull};
@@ -67,3 +68,4 @@ pub use profile::Profile;
 #[cfg(feature = "std")]
 pub use recorder::{RecordError, Recorder};
 pub use state::{Admission, Counts, Level, Packet, Queue, State, Waiting};
+pub use stored::StateError;

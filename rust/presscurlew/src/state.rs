@@ -85,7 +85,8 @@ pub struct Counts {
 
 /// The state of one gate. Any values at all may stand in it: the calls refuse a state that is not sound.
 ///
-/// It is plain numbers, 952 bytes without a gap, and may be copied and stored as bytes.
+/// It is plain numbers, 952 bytes without a gap, and may be copied. [`State::to_bytes`] gives it as bytes to be stored, and
+/// [`State::from_bytes`] reads them.
 #[repr(C)]
 #[derive(Clone, Copy, Debug, PartialEq, Eq, Hash)]
 pub struct State {

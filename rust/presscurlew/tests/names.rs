@@ -40,6 +40,6 @@ fn names_are_handed_on_at_the_root_alone() {
             *handed.entry(module).or_insert(0) += 1;
         }
     }
-    let due = ["gate", "profile", "recorder", "state"];
+    let due = ["gate", "profile", "recorder", "state", "stored"];
     assert!(handed.keys().eq(due), "{handed:?}");
 }
