@@ -444,8 +444,8 @@ impl Gate {
     }
 
     /// A gate that goes on with a stored state: the one that the last call before a restart left ([`Gate::state`],
-    /// [`State::to_bytes`], [`State::from_bytes`]). Then
-    /// nothing was restarted, all that holds of one gate holds on, and there is no silence to keep.
+    /// [`State::to_bytes`], [`State::from_bytes`]). Then nothing was restarted, all that holds of one gate holds on, and
+    /// there is no silence to keep.
     ///
     /// That needs the radio's clock to have run on, for less than 2,147,483,648 µs, and the state to be that of the last
     /// call: one from before the last [`Answer::Sent`] doesn't know of that packet. Whether it is, nobody can see who
