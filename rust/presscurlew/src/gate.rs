@@ -403,7 +403,8 @@ fn taken(answer: u8) -> Result<(), Refusal> {
 
 impl Gate {
     /// The µs after a make in which a host does not poll: a second. What the radio sent before, a fresh gate doesn't know,
-    /// and within a second it counts. Then the figures hold across any number of restarts.
+    /// and for a second it counts. With the silence, what the label says of any second, minute or hour holds across any
+    /// number of restarts.
     pub const SILENCE: u32 = 1_000_000;
 
     /// A fresh gate, at the radio's stamp. It is polled for the first time [`Gate::SILENCE`] µs later, or after that. What

@@ -10,6 +10,9 @@
 //! - [`floats`]: profile 3's update in f64, for simulations
 //! - [`sys`]: the archives' calls as C sees them
 //!
+//! With `default-features = false` there is no [`Recorder`], which needs `std`, and no [`Gate::offer_burst`], which needs
+//! `alloc`: [`Gate::offer_burst_into`] is the same without a heap.
+//!
 //! Times are whole microseconds (µs), duty is in parts per 1,000,000,000 and load in parts per 1,000,000; in [`floats`]
 //! alone both are fractions of 1.
 

@@ -108,7 +108,7 @@ pub struct State {
     pub stamp: u32,
     /// The on-time of the last admission in µs; 0 before the first.
     pub last_ontime: u32,
-    /// 1 once something was admitted, else 0.
+    /// 1 once something was admitted, else 0. [`State::last_admission`] reads the three.
     pub admitted: u32,
     /// The level, 0 to 4; in profile 5 one of its list, 0 to 8.
     pub level: u32,
@@ -136,7 +136,7 @@ pub struct State {
     pub level_count: u32,
     /// The wait of its level 0 in µs; 0 in the other profiles.
     pub base_wait: u32,
-    /// The packets that wait, by priority.
+    /// The packets that wait, by priority. [`Queue::waiting`] leaves out the unused places.
     pub queues: [Queue; 4],
     /// The admissions of the last second, in every profile: younger than 1,000,000 µs, at least 25,000 µs apart, with at
     /// most 30,000 µs of on-time in all. The newest is the last admission; once that is older, there are none.

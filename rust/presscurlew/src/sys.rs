@@ -20,15 +20,15 @@
 //! let mut state = State::default();
 //! assert_eq!(sys::make(&mut state, 2, sys::DROP_OLDEST, &sys::Levels::NONE, 0).kind, sys::READY);
 //! let warning = Offer { id: 7, priority: 1, ontime: 400, lifetime: 60_000 };
-//! assert_eq!(sys::offer(&mut state, warning, 100).kind, sys::TAKEN);
-//! let reply = sys::poll(&mut state, 200);
+//! assert_eq!(sys::offer(&mut state, warning, 1_000_000).kind, sys::TAKEN);
+//! let reply = sys::poll(&mut state, 1_000_100);
 //! assert_eq!((reply.kind, reply.packet.id), (sys::SENT, 7));
 //!
 //! // A state that was changed from outside is refused with 9, and stays as it is.
 //! let mut bent = state;
 //! bent.queues[0].len = 6;
 //! let before = bent;
-//! let reply = sys::poll(&mut bent, 300);
+//! let reply = sys::poll(&mut bent, 1_000_200);
 //! assert_eq!((reply.kind, reply.number), (sys::REFUSED, 9));
 //! assert_eq!(bent, before);
 //! ```
