@@ -192,14 +192,16 @@ pub struct Offer {
 /// ```compile_fail
 /// # #![deny(unused_must_use)]
 /// # let mut gate = presscurlew::Gate::of_number(1, presscurlew::WhenFull::DropOldest, 0)?;
-/// gate.poll(30)?;
+/// # let now = presscurlew::Gate::SILENCE;
+/// gate.poll(now)?;
 /// # Ok::<(), presscurlew::Refusal>(())
 /// ```
 ///
 /// ```
 /// # #![deny(unused_must_use)]
 /// # let mut gate = presscurlew::Gate::of_number(1, presscurlew::WhenFull::DropOldest, 0)?;
-/// let answer = gate.poll(30)?;
+/// # let now = presscurlew::Gate::SILENCE;
+/// let answer = gate.poll(now)?;
 /// # Ok::<(), presscurlew::Refusal>(())
 /// ```
 #[must_use = "a packet that is SENT has left its queue, and goes on air now or never"]
