@@ -1,7 +1,7 @@
 //! The gate in ordinary Rust, in place on the archive's own layout: (b) with no test of soundness; (a) with the whole test
 //! at every call. Written for speed as one would for oneself.
 
-use presscurlew::sys::{Packet, Queue, State, Waiting};
+use presscurlew::{Packet, Queue, State, Waiting};
 
 #[derive(Clone, Copy)]
 pub enum Answer {
@@ -493,7 +493,7 @@ pub fn poll(s: &mut State, stamp: u32) -> Answer {
 /// (a) The same calls, each with the test of soundness, not inlined: as a library offers them.
 pub mod tested {
     use super::{is_sound, Answer};
-    use presscurlew::sys::State;
+    use presscurlew::State;
 
     #[inline(never)]
     pub fn sample(s: &mut State, busy: u32, probes: u32, stamp: u32) -> Answer {
@@ -531,7 +531,7 @@ pub mod tested {
 /// (b) The same calls without the test, not inlined either.
 pub mod untested {
     use super::Answer;
-    use presscurlew::sys::State;
+    use presscurlew::State;
 
     #[inline(never)]
     pub fn sample(s: &mut State, busy: u32, probes: u32, stamp: u32) -> Answer {

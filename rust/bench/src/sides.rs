@@ -1,8 +1,7 @@
 //! A row of calls on the gate, in place: by C calls of the archive, and in plain Rust (a) with the test of soundness at
 //! every call and (b) with none. All three are calls of functions that stand by themselves, on states that lie alike.
 
-use presscurlew::sys::{self, State};
-use presscurlew::Offer;
+use presscurlew::{sys, Offer, State};
 
 use crate::places::{Call, Run};
 use crate::plain::{tested, untested, Answer};

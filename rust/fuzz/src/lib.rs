@@ -12,7 +12,6 @@ use help::{
     hold_write, levels_of, raw, raw_if, read_state, word, Call, LogCall, ACCEPTED_MOST,
     EDGE_COUNTS, EDGE_LIFETIMES, EDGE_ONTIMES, EDGE_PRIORITIES, EDGE_PROBES, EDGE_STEPS, TIME_END,
 };
-use presscurlew::sys;
 use reference::levels::{Levels, Loads};
 use reference::log::{read, Record, RECORD_BYTES};
 use reference::state::{sound, Admission, Packet, State};
@@ -66,7 +65,7 @@ impl Input<'_> {
     }
 
     /// Any state of the archive, often a sound one.
-    fn state(&mut self) -> sys::State {
+    fn state(&mut self) -> presscurlew::State {
         let profile = self.of(&[1, 2, 3, 4, 5, 0, 6]);
         let (way, stamp) = (
             self.of(&[0, 1, 0, 1, 2]),
@@ -102,7 +101,7 @@ impl Input<'_> {
 
     /// The state, now and then with another number in a place of a queue, unused or not, a packet that has gone to another
     /// queue without its arrival, or any byte of the whole another one.
-    fn bent(&mut self, mut state: sys::State) -> sys::State {
+    fn bent(&mut self, mut state: presscurlew::State) -> presscurlew::State {
         let (queue, place) = (usize::from(self.byte() % 4), usize::from(self.byte() % 5));
         match self.byte() {
             249 => state.arrivals[queue][place] = self.time_before(state.time),
@@ -116,7 +115,8 @@ impl Input<'_> {
             }
             255 => {
                 let mut bytes = bytes_of(&state);
-                bytes[usize::from(self.number() as u16) % size_of::<sys::State>()] = self.byte();
+                bytes[usize::from(self.number() as u16) % size_of::<presscurlew::State>()] =
+                    self.byte();
                 state = state_of(bytes);
             }
             _ => {}
@@ -125,7 +125,7 @@ impl Input<'_> {
     }
 
     /// The state, now and then with another word in its ledger, another length, or another time of the last admission.
-    fn reworded(&mut self, mut state: sys::State) -> sys::State {
+    fn reworded(&mut self, mut state: presscurlew::State) -> presscurlew::State {
         let place = usize::from(self.byte()) % state.air.len();
         match self.byte() {
             250 => state.air[place] = self.number(),
@@ -355,7 +355,7 @@ impl Input<'_> {
 }
 
 /// The state of some bytes: any are one.
-fn state_of(bytes: [u8; size_of::<sys::State>()]) -> sys::State {
+fn state_of(bytes: [u8; size_of::<presscurlew::State>()]) -> presscurlew::State {
     // SAFETY: the state is numbers of 4 and 8 bytes, which fill it.
     unsafe { std::mem::transmute(bytes) }
 }
@@ -377,7 +377,7 @@ fn try_write(input: &mut Input, call: &Call) {
 }
 
 /// A call and a burst on a state with a flag that the reference has no word for.
-fn try_flags(input: &mut Input, state: &sys::State) {
+fn try_flags(input: &mut Input, state: &presscurlew::State) {
     let mut bent = *state;
     let flag = input.of(&[2, 3, 256, u32::MAX]).max(2);
     match input.byte() % 3 {

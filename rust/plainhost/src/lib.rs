@@ -6,9 +6,9 @@
 //!
 //! ```
 //! use plainhost::Levels;
-//! use presscurlew::{sys, Offer};
+//! use presscurlew::{sys, Offer, State};
 //!
-//! let mut gate = sys::State::default();
+//! let mut gate = State::default();
 //! assert_eq!(sys::make(&mut gate, 2, sys::DROP_OLDEST, &sys::Levels::NONE, 0).kind, sys::READY);
 //! let mut plain = plainhost::presscurlew_plain_make(2, sys::DROP_OLDEST, Levels::NONE, 0);
 //! for (id, priority) in [(7, 2), (8, 1), (9, 2)] {
@@ -29,9 +29,8 @@
 #![deny(missing_docs)]
 #![deny(unsafe_code)]
 
-use presscurlew::sys::{
-    self, Packet, Queue, Reply, Waiting, MOST_ADMISSIONS, MOST_LEVELS, MOST_LOADS, MOST_WAITING,
-};
+use presscurlew::sys::{self, Reply, MOST_ADMISSIONS, MOST_LEVELS, MOST_LOADS, MOST_WAITING};
+use presscurlew::{Packet, Queue, Waiting};
 
 /// The most packets that wait.
 pub const PLACES: usize = 20;
@@ -119,7 +118,7 @@ pub struct Clock {
     pub stamp: u32,
 }
 
-/// The admissions of the last second, in the words of [`sys::State::air`].
+/// The admissions of the last second, in the words of [`presscurlew::State::air`].
 #[repr(C)]
 #[derive(Clone, Copy, Debug, PartialEq, Eq, Hash)]
 pub struct Ledger {
@@ -207,7 +206,7 @@ pub struct Last {
     pub admitted: u32,
 }
 
-/// What was counted, as [`sys::Counts`].
+/// What was counted, as [`presscurlew::Counts`].
 #[repr(C)]
 #[derive(Clone, Copy, Debug, Default, PartialEq, Eq, Hash)]
 pub struct Counts {
@@ -270,9 +269,9 @@ pub struct State {
 impl State {
     /// The gate's state of the same meaning: the line is parted by priority, all else is as it is. There is none where
     /// the line is not in order, or where a length has more than the 32 bits that the gate's lengths have.
-    pub fn parted(&self) -> Option<sys::State> {
+    pub fn parted(&self) -> Option<presscurlew::State> {
         let (queues, arrivals) = self.line.parted()?;
-        Some(sys::State {
+        Some(presscurlew::State {
             time: self.clock.time,
             last_at: self.last.at,
             accepted: self.counts.accepted,
@@ -305,7 +304,7 @@ impl State {
     }
 
     /// The gate's state with a line in place of its queues.
-    pub fn with_line(gate: &sys::State, line: Line) -> State {
+    pub fn with_line(gate: &presscurlew::State, line: Line) -> State {
         State {
             line,
             ledger: Ledger {

@@ -1,31 +1,4 @@
-//! The gate of one radio channel: it takes samples and packets, and says when a packet may go.
-//!
-//! ```
-//! use presscurlew::{Answer, Gate, Offer, Profile, Refusal, WhenFull};
-//!
-//! // The radio's 32-bit count wraps in the middle of this; the gate does not mind.
-//! let mut gate = Gate::new(Profile::ReactiveA2, WhenFull::DropOldest, 4_294_967_000)?;
-//! gate.offer(Offer { id: 7, priority: 2, ontime: 400, lifetime: 1_000_000 }, 4_294_967_100)?;
-//! gate.offer(Offer { id: 8, priority: 1, ontime: 400, lifetime: 60_000 }, 4_294_967_100)?;
-//!
-//! let Answer::Sent(packet) = gate.poll(4_294_967_200)? else { panic!() };
-//! assert_eq!(packet.id, 8);
-//! // It is on air for 400 µs, and then the wait starts: 50,000 µs at level 0.
-//! assert_eq!(gate.poll(704)?, Answer::Closed { micros: 49_600 });
-//! assert_eq!(gate.poll(49_904)?, Answer::Closed { micros: 400 });
-//!
-//! // A clock that goes back is refused, and the gate stays as it was.
-//! assert_eq!(gate.poll(49_903), Err(Refusal::ClockBack));
-//! assert_eq!(gate.poll(49_904)?, Answer::Closed { micros: 400 });
-//!
-//! let Answer::Sent(packet) = gate.poll(50_304)? else { panic!() };
-//! assert_eq!(packet.id, 7);
-//! assert_eq!(gate.poll(50_304)?, Answer::Idle);
-//!
-//! let counts = gate.counts();
-//! assert_eq!((counts.accepted, counts.sent, counts.expired), (2, 2, 0));
-//! # Ok::<(), Refusal>(())
-//! ```
+//! The gate, what it is offered, and what it answers.
 
 #[cfg(feature = "alloc")]
 use alloc::{vec, vec::Vec};
@@ -33,21 +6,141 @@ use core::error::Error;
 use core::fmt;
 
 use crate::profile::Profile;
+use crate::state::{Counts, Level, Packet, Queue, State};
 use crate::sys;
-pub use crate::sys::{Counts, Level, Packet};
 
-/// The gate of one channel.
+/// The gate of one channel: it takes samples and packets, and says when a packet may go.
 ///
-/// It holds its state and lets nobody change it: every state that it is in is sound, and came from its own calls or from
-/// the state that it went on with ([`Gate::resume`]). It can't be cloned: each of two copies would admit packets for
-/// itself, and together they would send more than one gate may.
+/// **First a second of silence.** A fresh gate knows nothing of what the radio sent before. It is polled for the first
+/// time [`Gate::SILENCE`] µs after it was made, or later; it may be sampled and offered packets at once. A gate that goes on
+/// with a stored state ([`Gate::resume`]) is polled when the host likes.
 ///
 /// Every call takes the radio's stamp, a 32-bit count of µs that starts anywhere and wraps. The gate has to be
 /// called at least once in 2,147,483,647 µs (some 35 minutes); after a longer time the clock seems to have gone
 /// back.
-#[derive(Debug, PartialEq, Eq)]
+///
+/// It holds its state and lets nobody change it: every state that it is in is sound, and came from its own calls or from
+/// the state that it went on with. It can't be cloned: each of two copies would admit packets for itself, and together
+/// they would send more than one gate may.
+///
+/// ```
+/// use presscurlew::{Answer, Gate, Offer, Profile, Refusal, WhenFull};
+///
+/// // The radio's 32-bit count wraps in the middle of this; the gate does not mind.
+/// let made: u32 = 4_293_967_296;
+/// let mut gate = Gate::new(Profile::ReactiveA2, WhenFull::DropOldest, made)?;
+/// gate.offer(Offer { id: 7, priority: 2, ontime: 400, lifetime: 2_000_000 }, made + 100)?;
+/// gate.offer(Offer { id: 8, priority: 1, ontime: 400, lifetime: 2_000_000 }, made + 100)?;
+///
+/// // A second after the make the radio's count is 0: the first poll.
+/// let Answer::Sent(packet) = gate.poll(made.wrapping_add(Gate::SILENCE))? else { panic!() };
+/// assert_eq!(packet.id, 8);
+/// // It is on air for 400 µs, and then the wait starts: 50,000 µs at level 0.
+/// assert_eq!(gate.poll(400)?, Answer::Closed { micros: 50_000 });
+/// assert_eq!(gate.poll(50_000)?, Answer::Closed { micros: 400 });
+///
+/// // A clock that goes back is refused, and the gate stays as it was.
+/// assert_eq!(gate.poll(49_999), Err(Refusal::ClockBack));
+/// assert_eq!(gate.poll(50_000)?, Answer::Closed { micros: 400 });
+///
+/// let Answer::Sent(packet) = gate.poll(50_400)? else { panic!() };
+/// assert_eq!(packet.id, 7);
+/// assert_eq!(gate.poll(50_400)?, Answer::Idle);
+///
+/// let counts = gate.counts();
+/// assert_eq!((counts.accepted, counts.sent, counts.expired), (2, 2, 0));
+/// # Ok::<(), Refusal>(())
+/// ```
+#[derive(PartialEq, Eq)]
 pub struct Gate {
-    state: sys::State,
+    state: State,
+}
+
+/// At most a screenful: what steers the gate, what was counted, the identifiers that wait by priority, the last admission,
+/// and what was admitted in the last second. [`Gate::state`] has every number.
+///
+/// ```
+/// use presscurlew::{Answer, Gate, Offer, Profile, Refusal, WhenFull};
+///
+/// let mut gate = Gate::new(Profile::ReactiveA1, WhenFull::DropOldest, 0)?;
+/// for (id, priority) in [(7, 0), (8, 0), (9, 2)] {
+///     gate.offer(Offer { id, priority, ontime: 600, lifetime: 2_000_000 }, 1_000)?;
+/// }
+/// assert!(matches!(gate.poll(1_000_000)?, Answer::Sent(_)));
+/// let shown = "\
+/// Gate {
+///     profile: ReactiveA1,
+///     when_full: DropOldest,
+///     time: 1000000,
+///     stamp: 1000000,
+///     level: 0,
+///     counts: Counts { accepted: 3, sent: 1, expired: 0, displaced: 0 },
+///     waiting: {
+///         0: [8],
+///         2: [9],
+///     },
+///     last: Some(Admission { at: 1000000, ontime: 600 }),
+///     last_second: { admissions: 1, ontime: 600 },
+///     ..
+/// }";
+/// assert_eq!(format!("{gate:#?}"), shown);
+/// # Ok::<(), Refusal>(())
+/// ```
+impl fmt::Debug for Gate {
+    fn fmt(&self, f: &mut fmt::Formatter<'_>) -> fmt::Result {
+        let state = &self.state;
+        let profile = Profile::try_from(state.profile);
+        let name: &dyn fmt::Debug = match &profile {
+            Ok(profile) => profile,
+            // No sound state has another.
+            Err(_) => &state.profile,
+        };
+        let when_full = match state.when_full {
+            sys::DROP_OLDEST => WhenFull::DropOldest,
+            _ => WhenFull::RefuseNew,
+        };
+        let mut shown = f.debug_struct("Gate");
+        shown
+            .field("profile", name)
+            .field("when_full", &when_full)
+            .field("time", &state.time)
+            .field("stamp", &state.stamp);
+        match profile {
+            Ok(Profile::Adaptive) => shown
+                .field("duty", &state.duty)
+                .field("smoothed", &state.smoothed),
+            Ok(Profile::Harmonised) => shown.field("latest", &state.latest),
+            _ => shown.field("level", &state.level),
+        };
+        let admissions = state.last_second().count();
+        let ontime: u32 = state.last_second().map(|one| one.ontime).sum();
+        shown
+            .field("counts", &format_args!("{:?}", state.counts()))
+            .field("waiting", &Identifiers(&state.queues))
+            .field("last", &format_args!("{:?}", state.last_admission()))
+            .field(
+                "last_second",
+                &format_args!("{{ admissions: {admissions}, ontime: {ontime} }}"),
+            )
+            .finish_non_exhaustive()
+    }
+}
+
+/// Shows the identifiers that wait, a line for each priority that has some.
+struct Identifiers<'a>(&'a [Queue; 4]);
+
+impl fmt::Debug for Identifiers<'_> {
+    fn fmt(&self, f: &mut fmt::Formatter<'_>) -> fmt::Result {
+        let mut shown = f.debug_map();
+        for (priority, queue) in self.0.iter().enumerate() {
+            let ids = queue.packets.map(|packet| packet.id);
+            match queue.waiting().len() {
+                0 => continue,
+                len => shown.entry(&priority, &format_args!("{:?}", &ids[..len])),
+            };
+        }
+        shown.finish()
+    }
 }
 
 /// What a gate does with an offer that finds 5 unexpired packets of its priority.
@@ -99,14 +192,16 @@ pub struct Offer {
 /// ```compile_fail
 /// # #![deny(unused_must_use)]
 /// # let mut gate = presscurlew::Gate::of_number(1, presscurlew::WhenFull::DropOldest, 0)?;
-/// gate.poll(30)?;
+/// # let now = presscurlew::Gate::SILENCE;
+/// gate.poll(now)?;
 /// # Ok::<(), presscurlew::Refusal>(())
 /// ```
 ///
 /// ```
 /// # #![deny(unused_must_use)]
 /// # let mut gate = presscurlew::Gate::of_number(1, presscurlew::WhenFull::DropOldest, 0)?;
-/// let answer = gate.poll(30)?;
+/// # let now = presscurlew::Gate::SILENCE;
+/// let answer = gate.poll(now)?;
 /// # Ok::<(), presscurlew::Refusal>(())
 /// ```
 #[must_use = "a packet that is SENT has left its queue, and goes on air now or never"]
@@ -309,8 +404,14 @@ fn taken(answer: u8) -> Result<(), Refusal> {
 }
 
 impl Gate {
-    /// A fresh gate, at the radio's stamp. What it does when a queue is full is fixed here. [`Profile::FirstEdition`] needs
-    /// a list of levels, and [`Gate::first_edition`] makes it.
+    /// The µs after a make in which a host does not poll: a second. What the radio sent before, a fresh gate doesn't know,
+    /// and for a second it counts. With the silence, what the label says of any second, minute or hour holds across any
+    /// number of restarts.
+    pub const SILENCE: u32 = 1_000_000;
+
+    /// A fresh gate, at the radio's stamp. It is polled for the first time [`Gate::SILENCE`] µs later, or after that. What
+    /// it does when a queue is full is fixed here. [`Profile::FirstEdition`] needs a list of levels, and
+    /// [`Gate::first_edition`] makes it.
     ///
     /// # Errors
     ///
@@ -345,26 +446,28 @@ impl Gate {
         Gate::made(profile, when_full, &sys::Levels::NONE, stamp)
     }
 
-    /// A gate that goes on with a stored state: the one that the last call before a restart left ([`Gate::state`]). Then
-    /// nothing was restarted, and all that holds of one gate holds on.
+    /// A gate that goes on with a stored state: the one that the last call before a restart left ([`Gate::state`],
+    /// [`State::to_bytes`], [`State::from_bytes`]). Then nothing was restarted, all that holds of one gate holds on, and
+    /// there is no silence to keep.
     ///
     /// That needs the radio's clock to have run on, for less than 2,147,483,648 µs, and the state to be that of the last
     /// call: one from before the last [`Answer::Sent`] doesn't know of that packet. Whether it is, nobody can see who
-    /// has the state alone. A host that isn't sure makes a fresh gate, and polls it for the first time 1,000,000 µs
-    /// later.
+    /// has the state alone. A host that isn't sure makes a fresh gate, and polls it for the first time
+    /// [`Gate::SILENCE`] µs later.
     ///
     /// ```
     /// use presscurlew::{Answer, Gate, Offer, Profile, Refusal, WhenFull};
     ///
     /// let mut gate = Gate::new(Profile::ReactiveA1, WhenFull::DropOldest, 0)?;
-    /// gate.offer(Offer { id: 7, priority: 1, ontime: 400, lifetime: 60_000 }, 0)?;
-    /// assert!(matches!(gate.poll(0)?, Answer::Sent(_)));
+    /// gate.offer(Offer { id: 7, priority: 1, ontime: 400, lifetime: 60_000 }, 1_000_000)?;
+    /// assert!(matches!(gate.poll(1_000_000)?, Answer::Sent(_)));
     /// let mut stored = *gate.state();
     /// drop(gate);
     ///
+    /// // It knows of the packet that was sent, and is closed after it.
     /// let mut gate = Gate::resume(stored)?;
-    /// gate.offer(Offer { id: 8, priority: 1, ontime: 400, lifetime: 200_000 }, 10_000)?;
-    /// assert_eq!(gate.poll(10_000)?, Answer::Closed { micros: 90_400 });
+    /// gate.offer(Offer { id: 8, priority: 1, ontime: 400, lifetime: 200_000 }, 1_010_000)?;
+    /// assert_eq!(gate.poll(1_010_000)?, Answer::Closed { micros: 90_400 });
     ///
     /// stored.duty = 0; // as if it had been stored badly
     /// assert_eq!(Gate::resume(stored), Err(Refusal::NoState));
@@ -378,7 +481,7 @@ impl Gate {
     /// # Panics
     ///
     /// As [`Gate::new`].
-    pub fn resume(state: sys::State) -> Result<Gate, Refusal> {
+    pub fn resume(state: State) -> Result<Gate, Refusal> {
         hold_layout();
         if !sys::is_sound(&state) {
             return Err(Refusal::NoState);
@@ -387,7 +490,8 @@ impl Gate {
     }
 
     /// A fresh gate of profile 5, the first edition's: the wait of level 0, and up to eight levels above it, each with
-    /// the load that leads to it and its own wait.
+    /// the load that leads to it and its own wait. It is polled for the first time [`Gate::SILENCE`] µs later, or after
+    /// that.
     ///
     /// The level goes up once the last ten samples reach its threshold, and down once none of the last fifty does; it
     /// moves at once, by as many levels as that is.
@@ -438,7 +542,7 @@ impl Gate {
         stamp: u32,
     ) -> Result<Gate, Refusal> {
         hold_layout();
-        let mut state = sys::State::default();
+        let mut state = State::default();
         let reply = sys::make(&mut state, profile, when_full as u32, list, stamp);
         accepted(&reply)?;
         Ok(Gate { state })
@@ -581,12 +685,16 @@ impl Gate {
 
     /// Whether a packet may go, and which: the oldest of the lowest-numbered queue that has one.
     ///
-    /// After an admission the gate is closed until the wait ([`crate::rules::wait`]) is over. In profiles 1, 2 and 4 the
-    /// wait starts when the packet is off the air, its on-time after the admission; in profile 3 with the admission.
+    /// After an admission the gate is closed until the wait is over: that of [`rules::wait`](crate::rules::wait), and in
+    /// profile 5 that of its level in the list. In profiles 1, 2, 4 and 5 the wait starts when the packet is off the air,
+    /// its on-time after the admission; in profile 3 with the admission.
     ///
     /// It is closed for a packet, too, with which more than 30,000 µs would be admitted in the 1,000,000 µs up to and
     /// including now; an admission exactly 1,000,000 µs ago is left out. So any second has at most 30 ms of on-time.
     /// A shorter packet behind it has to wait as well.
+    ///
+    /// The gate can't know what was admitted before it was made: the first poll comes [`Gate::SILENCE`] µs after that, or
+    /// later.
     ///
     /// ```
     /// use presscurlew::{Answer, Gate, Offer, Profile, WhenFull};
@@ -597,15 +705,15 @@ impl Gate {
     ///     gate.sample_count(0, 1_000, 0)?;
     /// }
     /// for id in 0..7 {
-    ///     let stamp = id * 133_334;
+    ///     let stamp = 1_000_000 + id * 133_334;
     ///     gate.offer(Offer { id, priority: 0, ontime: 4_000, lifetime: 60_000_000 }, stamp)?;
     ///     assert!(matches!(gate.poll(stamp)?, Answer::Sent(_)));
     /// }
     /// // The eighth would make 32 ms in a second: it waits until the first is a second old.
-    /// gate.offer(Offer { id: 7, priority: 0, ontime: 4_000, lifetime: 60_000_000 }, 933_338)?;
-    /// assert_eq!(gate.poll(933_338)?, Answer::Closed { micros: 66_662 });
-    /// assert_eq!(gate.poll(999_999)?, Answer::Closed { micros: 1 });
-    /// assert!(matches!(gate.poll(1_000_000)?, Answer::Sent(_)));
+    /// gate.offer(Offer { id: 7, priority: 0, ontime: 4_000, lifetime: 60_000_000 }, 1_933_338)?;
+    /// assert_eq!(gate.poll(1_933_338)?, Answer::Closed { micros: 66_662 });
+    /// assert_eq!(gate.poll(1_999_999)?, Answer::Closed { micros: 1 });
+    /// assert!(matches!(gate.poll(2_000_000)?, Answer::Sent(_)));
     /// # Ok::<(), presscurlew::Refusal>(())
     /// ```
     ///
@@ -634,13 +742,13 @@ impl Gate {
     ///
     /// let mut gate = Gate::new(Profile::ReactiveA1, WhenFull::DropOldest, 0)?;
     /// for id in 0..3 {
-    ///     gate.offer(Offer { id, priority: 1, ontime: 400, lifetime: 60_000 }, 0)?;
+    ///     gate.offer(Offer { id, priority: 1, ontime: 400, lifetime: 60_000 }, 1_000_000)?;
     /// }
-    /// assert!(matches!(gate.poll(0)?, Answer::Sent(_)));
+    /// assert!(matches!(gate.poll(1_000_000)?, Answer::Sent(_)));
     /// assert_eq!(gate.counts(), Counts { accepted: 3, sent: 1, ..Counts::default() });
     ///
     /// // The gate opens after 100 ms: too late for the other two.
-    /// assert_eq!(gate.poll(100_000)?, Answer::Idle);
+    /// assert_eq!(gate.poll(1_100_000)?, Answer::Idle);
     /// assert_eq!(gate.counts(), Counts { accepted: 3, sent: 1, expired: 2, displaced: 0 });
     /// # Ok::<(), presscurlew::Refusal>(())
     /// ```
@@ -648,8 +756,8 @@ impl Gate {
         self.state.counts()
     }
 
-    /// The state, to look at and to store: level, duty, what waits, the running time, the admissions of the last second.
-    /// A copy of it can be gone on with after a restart ([`Gate::resume`]).
+    /// The state, to look at and to store ([`State::to_bytes`]): level, duty, what waits, the running time, the admissions
+    /// of the last second. A copy of it can be gone on with after a restart ([`Gate::resume`]).
     ///
     /// ```
     /// use presscurlew::{Gate, Profile, WhenFull};
@@ -660,7 +768,7 @@ impl Gate {
     /// assert_eq!(gate.state().last_second().count(), 0);
     /// # Ok::<(), presscurlew::Refusal>(())
     /// ```
-    pub fn state(&self) -> &sys::State {
+    pub fn state(&self) -> &State {
         &self.state
     }
 }

@@ -1,22 +1,4 @@
 //! A gate that records its own calls, so that the run can be played and judged afterwards.
-//!
-//! ```
-//! use presscurlew::{Answer, Offer, RecordError, Recorder, WhenFull};
-//!
-//! let mut log = Vec::new(); // or a File
-//! let mut gate = Recorder::new(2, WhenFull::DropOldest, 1_000, &mut log)?;
-//! gate.offer(Offer { id: 7, priority: 1, ontime: 400, lifetime: 60_000 }, 1_100)?;
-//! assert!(matches!(gate.poll(1_200)?, Answer::Sent(packet) if packet.id == 7));
-//!
-//! // A call that is refused is in the log too, and is refused again when the log is played.
-//! let refused = gate.poll(1_199);
-//! assert!(matches!(refused, Err(RecordError::Refused(refusal)) if refusal.number() == 2));
-//!
-//! // 16 bytes a call: make, offer, poll, poll.
-//! let kinds: Vec<u8> = log.chunks(16).map(|record| record[0]).collect();
-//! assert_eq!(kinds, [0, 2, 3, 3]);
-//! # Ok::<(), RecordError>(())
-//! ```
 
 use std::error::Error;
 use std::fmt;
@@ -27,7 +9,26 @@ use crate::gate::{Answer, Gate, Offer, Refusal, WhenFull};
 use crate::profile::Profile;
 use crate::sys::{self, RECORD_BYTES};
 
-/// A [`Gate`] that writes each call to a log before it makes it.
+/// A [`Gate`] that writes each call to a log before it makes it, so that the run can be played and judged afterwards.
+///
+/// ```
+/// use presscurlew::{Answer, Offer, RecordError, Recorder, WhenFull};
+///
+/// let mut log = Vec::new(); // or a File
+/// let mut gate = Recorder::new(2, WhenFull::DropOldest, 1_000, &mut log)?;
+/// gate.offer(Offer { id: 7, priority: 1, ontime: 400, lifetime: 2_000_000 }, 1_100)?;
+/// // The first poll comes a second after the make: `Gate::SILENCE`.
+/// assert!(matches!(gate.poll(1_001_000)?, Answer::Sent(packet) if packet.id == 7));
+///
+/// // A call that is refused is in the log too, and is refused again when the log is played.
+/// let refused = gate.poll(1_000_999);
+/// assert!(matches!(refused, Err(RecordError::Refused(refusal)) if refusal.number() == 2));
+///
+/// // 16 bytes a call: make, offer, poll, poll.
+/// let kinds: Vec<u8> = log.chunks(16).map(|record| record[0]).collect();
+/// assert_eq!(kinds, [0, 2, 3, 3]);
+/// # Ok::<(), RecordError>(())
+/// ```
 ///
 /// **The log.** It starts with the make and has a record of 16 bytes for every call that was made, refused ones
 /// included, in their order; a burst has one for each offer. The program `replay` plays it and writes a line for each
@@ -275,13 +276,13 @@ impl<W> Recorder<W> {
     /// // Room for three calls.
     /// let mut disk = [0; 48];
     /// let mut gate = Recorder::new(1, WhenFull::DropOldest, 0, &mut disk[..])?;
-    /// gate.sample_count(700, 1_000, 100)?;
-    /// assert_eq!(gate.poll(200)?, Answer::Idle);
-    /// assert!(matches!(gate.poll(300), Err(RecordError::Log(_))));
+    /// gate.sample_count(700, 1_000, 100_000)?;
+    /// assert_eq!(gate.poll(1_000_000)?, Answer::Idle);
+    /// assert!(matches!(gate.poll(1_010_000), Err(RecordError::Log(_))));
     ///
     /// let (mut gate, _) = gate.into_parts();
-    /// assert_eq!(gate.state().time, 200); // the last poll was not made
-    /// assert_eq!(gate.poll(300)?, Answer::Idle);
+    /// assert_eq!(gate.state().time, 1_000_000); // the last poll was not made
+    /// assert_eq!(gate.poll(1_010_000)?, Answer::Idle);
     /// # Ok::<(), RecordError>(())
     /// ```
     pub fn into_parts(self) -> (Gate, W) {

@@ -171,7 +171,7 @@ fn profiles_by_name_are_those_that_make_takes() {
                 wait: 40_000,
             }],
         );
-        let mut state = sys::State::default();
+        let mut state = presscurlew::State::default();
         let made = sys::make(&mut state, number, sys::DROP_OLDEST, &list, 0);
         let profile = Profile::try_from(number);
         assert_eq!(profile.is_ok(), made.kind == sys::READY, "{number}");

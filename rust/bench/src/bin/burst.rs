@@ -5,7 +5,7 @@
 mod places;
 
 use places::{median, rounds, Call, Run, PLACES};
-use presscurlew::{sys, Offer};
+use presscurlew::{sys, Offer, State};
 
 const ROUNDS: usize = 13 * PLACES;
 /// Offers in a burst.
@@ -14,13 +14,13 @@ const BURSTS: usize = 150;
 
 /// What a side ends with.
 struct End {
-    state: sys::State,
+    state: State,
     /// All answers, in their order, as one number.
     answers: u64,
 }
 
 impl End {
-    fn at(state: sys::State) -> End {
+    fn at(state: State) -> End {
         End { state, answers: 0 }
     }
 
@@ -30,7 +30,7 @@ impl End {
 }
 
 /// One C call an offer.
-fn singles(start: sys::State, row: &[Call]) -> End {
+fn singles(start: State, row: &[Call]) -> End {
     let mut end = End::at(start);
     for &[_, id, priority, ontime, lifetime, stamp] in row {
         let offer = Offer {
@@ -46,7 +46,7 @@ fn singles(start: sys::State, row: &[Call]) -> End {
 }
 
 /// One C call for 20 offers. That the host writes the records is in the time.
-fn bursts(start: sys::State, row: &[Call]) -> End {
+fn bursts(start: State, row: &[Call]) -> End {
     let mut end = End::at(start);
     for calls in row.chunks_exact(BURST) {
         let mut records = [[0; sys::RECORD_BYTES]; BURST];
@@ -113,11 +113,11 @@ fn row(mix: &Mix) -> Vec<Call> {
     (0..(BURST * BURSTS) as u32).map(call).collect()
 }
 
-const SIDES: [Run<sys::State, End>; 2] = [singles, bursts];
+const SIDES: [Run<State, End>; 2] = [singles, bursts];
 
 fn measure(mix: &Mix, profile: u32) {
     let (row, name) = (row(mix), mix.name);
-    let mut start = sys::State::default();
+    let mut start = State::default();
     let made = sys::make(&mut start, profile, mix.when_full, &sys::Levels::NONE, 0);
     assert_eq!(made.kind, sys::READY);
     let [one, other] = SIDES.map(|run| run(start, &row));

@@ -10,7 +10,7 @@ mod plain;
 mod sides;
 
 use places::{median, rounds, Call, PLACES};
-use presscurlew::sys;
+use presscurlew::{sys, State};
 use sides::{ends_alike, SIDES};
 
 /// Rounds of each side: as many at each place of the stack.
@@ -146,14 +146,14 @@ fn list_of(profile: u32) -> sys::Levels {
     match profile {
         5 => sys::Levels::of(
             40_000,
-            &listed.map(|(above, wait)| sys::Level { above, wait }),
+            &listed.map(|(above, wait)| presscurlew::Level { above, wait }),
         ),
         _ => sys::Levels::NONE,
     }
 }
 
-fn start(mix: &Mix, profile: u32) -> sys::State {
-    let mut state = sys::State::default();
+fn start(mix: &Mix, profile: u32) -> State {
+    let mut state = State::default();
     let made = sys::make(&mut state, profile, mix.when_full, &list_of(profile), 0);
     assert_eq!(made.kind, sys::READY);
     for _ in 0..mix.quiet {

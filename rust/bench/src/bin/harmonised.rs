@@ -10,7 +10,7 @@ mod plain;
 mod sides;
 
 use places::{median, rounds, Call, PLACES};
-use presscurlew::{sys, Offer};
+use presscurlew::{sys, Offer, State};
 use sides::{ends_alike, SIDES};
 
 /// Rounds of each side: as many at each place of the stack.
@@ -48,8 +48,8 @@ const MIXES: [Mix; 3] = [
     },
 ];
 
-fn start(mix: &Mix) -> sys::State {
-    let mut state = sys::State::default();
+fn start(mix: &Mix) -> State {
+    let mut state = State::default();
     let made = sys::make(&mut state, 4, sys::DROP_OLDEST, &sys::Levels::NONE, 0);
     assert_eq!(made.kind, sys::READY);
     let taken = sys::sample_count(&mut state, mix.busy, PROBES, 0);
@@ -82,7 +82,7 @@ fn sampled() -> Vec<Call> {
 }
 
 /// Prints a line: millions of calls a second of each side, and the ratios of the times.
-fn measure(name: &str, start: sys::State, row: &[Call]) {
+fn measure(name: &str, start: State, row: &[Call]) {
     ends_alike(start, row, name);
     let [c, a, b] = rounds(SIDES, start, row, ROUNDS).map(median);
     let [by_c, tested, untested] = [c, a, b].map(|ns| 1_000.0 / ns);

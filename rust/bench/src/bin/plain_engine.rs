@@ -13,14 +13,14 @@ const CALLS: usize = 1_000;
 /// The states that a row starts from: the same, in both engines.
 #[derive(Clone, Copy)]
 struct Start {
-    gate: sys::State,
+    gate: presscurlew::State,
     plain: plainhost::State,
 }
 
 /// Where a row ends, as the gate has it, and how many packets it sent.
 #[derive(Debug, PartialEq, Eq)]
 struct End {
-    state: sys::State,
+    state: presscurlew::State,
     sent: u64,
 }
 
@@ -83,12 +83,12 @@ fn full(i: u32) -> [u32; 5] {
 
 fn start(profile: u32) -> Start {
     // Profile 5's; the others look at none.
-    let level = sys::Level {
+    let level = presscurlew::Level {
         above: 500_000,
         wait: 1_000_000,
     };
     let list = sys::Levels::of(100_000, &[level]);
-    let mut gate = sys::State::default();
+    let mut gate = presscurlew::State::default();
     let made = sys::make(&mut gate, profile, sys::DROP_OLDEST, &list, 0);
     assert_eq!(made.kind, sys::READY);
     let plain = plainhost::presscurlew_plain_make(profile, sys::DROP_OLDEST, list.into(), 0);

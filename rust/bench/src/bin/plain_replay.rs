@@ -8,7 +8,7 @@ mod plain;
 use std::io::{self, Read, Write};
 
 use plain::Answer;
-use presscurlew::sys::State;
+use presscurlew::State;
 
 fn word(bytes: &[u8], at: usize) -> u32 {
     u32::from_le_bytes([bytes[at], bytes[at + 1], bytes[at + 2], bytes[at + 3]])

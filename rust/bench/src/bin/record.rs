@@ -5,7 +5,7 @@
 mod places;
 
 use places::{median, rounds, Call, Run, PLACES};
-use presscurlew::{sys, Offer};
+use presscurlew::{sys, Offer, State};
 
 const ROUNDS: usize = 13 * PLACES;
 const CALLS: usize = 3000;
@@ -25,12 +25,12 @@ type Samples = &'static [[u64; 16]; SAMPLES];
 
 #[derive(Clone, Copy)]
 struct Start {
-    state: sys::State,
+    state: State,
     samples: Samples,
 }
 
 struct End {
-    state: sys::State,
+    state: State,
     log: [u8; LOG_BYTES],
 }
 
@@ -218,7 +218,7 @@ fn samples() -> Samples {
 
 fn measure(mix: &Mix, profile: u32, samples: Samples) {
     let (row, name) = (row(mix), mix.name);
-    let mut state = sys::State::default();
+    let mut state = State::default();
     let made = sys::make(&mut state, profile, sys::DROP_OLDEST, &sys::Levels::NONE, 0);
     assert_eq!(made.kind, sys::READY);
     let sides: [Run<Start, End>; 3] = [calls, records, recorded_calls];

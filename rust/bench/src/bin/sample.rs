@@ -11,7 +11,7 @@ mod plain;
 
 use places::{median, rounds, Run, PLACES};
 use plain::{busy_of, tested};
-use presscurlew::sys::{self, State};
+use presscurlew::{sys, State};
 
 const ROUNDS: usize = 13 * PLACES;
 const CALLS: usize = 1_000;

@@ -399,7 +399,7 @@ pub fn broken_states() -> Vec<(&'static str, State)> {
 }
 
 /// Every call on a state is refused with 9, whatever else is wrong with it; in a burst each offer is.
-fn hold_all_calls(state: &sys::State, origin: &dyn std::fmt::Display) {
+fn hold_all_calls(state: &presscurlew::State, origin: &dyn std::fmt::Display) {
     let profile = state.profile;
     for step in [0, 1_000, 1 << 31] {
         let stamp = state.stamp.wrapping_add(step);
@@ -484,7 +484,7 @@ fn words_that_stay_are_read_or_refused_with_9() {
     for profile in PROFILES {
         for state in ledger_states(profile).iter().map(raw) {
             let (time, at, ontime) = (state.time, state.last_at, state.last_ontime);
-            let mut bend = |change: &dyn Fn(&mut sys::State)| {
+            let mut bend = |change: &dyn Fn(&mut presscurlew::State)| {
                 let mut bent = state;
                 change(&mut bent);
                 seen[usize::from(hold_alike(&bent, &"kept words"))] += 1;
@@ -510,7 +510,7 @@ fn words_that_stay_are_read_or_refused_with_9() {
 }
 
 /// Holds every call to the reference, or to 9. Whether the state is sound.
-fn hold_alike(state: &sys::State, origin: &dyn std::fmt::Display) -> bool {
+fn hold_alike(state: &presscurlew::State, origin: &dyn std::fmt::Display) -> bool {
     let stamp = state.stamp;
     let calls = calls_at(state.profile, stamp.wrapping_add(1_000));
     let held = calls.iter().map(|call| hold_any(state, call, origin));
@@ -529,7 +529,7 @@ fn words_of_a_full_ledger_by_example() {
         let full = raw(&base(profile, 2).with_admissions(&admissions));
         let due = (0..40).rev().map(|n| word(25_000 * n, 1));
         assert!(full.air.iter().copied().eq(due), "{:?}", full.air);
-        let is_sound = |change: &dyn Fn(&mut sys::State)| {
+        let is_sound = |change: &dyn Fn(&mut presscurlew::State)| {
             let mut bent = full;
             change(&mut bent);
             hold_alike(&bent, &"a full ledger")
@@ -645,7 +645,7 @@ fn flags_above_1_are_refused_with_9() {
     for profile in PROFILES {
         let full = raw(&base(profile, 3));
         for bad in [2, 3, 256, 1 << 31, u32::MAX] {
-            let flags: [fn(&mut sys::State, u32); 3] = [
+            let flags: [fn(&mut presscurlew::State, u32); 3] = [
                 |s, flag| s.live = flag,
                 |s, flag| s.pairing = flag,
                 |s, flag| s.admitted = flag,
@@ -663,16 +663,16 @@ fn flags_above_1_are_refused_with_9() {
 #[test]
 fn states_of_no_sense_are_refused_with_9() {
     let refused = archive_make(0, sys::DROP_OLDEST, &sys::Levels::NONE, 5);
-    assert_eq!(refused.state, sys::State::default());
+    assert_eq!(refused.state, presscurlew::State::default());
     hold_all_calls(&refused.state, &"the all-zero state");
     let mut state = raw(&State::default());
     for fill in [1, 2, 5, 255, u32::MAX] {
-        let packet = sys::Waiting {
+        let packet = presscurlew::Waiting {
             id: fill,
             ontime: fill,
             lifetime: fill,
         };
-        state.queues = [sys::Queue {
+        state.queues = [presscurlew::Queue {
             len: fill,
             packets: [packet; 5],
         }; 4];

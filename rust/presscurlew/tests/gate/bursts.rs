@@ -46,7 +46,7 @@ fn hold_answers(state: &State, records: &[Record], answers: &[u8]) -> State {
 }
 
 /// Holds a burst to a refusal as a whole: the state as it was, and no answer written.
-fn hold_refused(state: sys::State, records: &[u8], room: usize, number: u32) {
+fn hold_refused(state: presscurlew::State, records: &[u8], room: usize, number: u32) {
     let expected = Burst {
         state,
         number,
@@ -58,9 +58,9 @@ fn hold_refused(state: sys::State, records: &[u8], room: usize, number: u32) {
 }
 
 /// Sound states and such that are not.
-fn states() -> Vec<sys::State> {
+fn states() -> Vec<presscurlew::State> {
     let mut rng = Rng::new(0x204);
-    let mut states = vec![sys::State::default()];
+    let mut states = vec![presscurlew::State::default()];
     for (profile, way) in gates() {
         for accepted in [5, ACCEPTED_MOST] {
             let state = raw(&late(profile, way, accepted));
@@ -485,7 +485,7 @@ fn an_offer_as_a_record_is_the_single_call() {
 }
 
 /// Holds a burst of one offer to the single call, and hands back its answer.
-fn hold_record(state: sys::State, offer: Offer, stamp: u32) -> u8 {
+fn hold_record(state: presscurlew::State, offer: Offer, stamp: u32) -> u8 {
     let Offer {
         id,
         priority,

@@ -26,9 +26,9 @@ fn waiting(priority: u32, place: u32) -> Packet {
 }
 
 /// Puts a packet into a place of a queue.
-fn put(state: &mut sys::State, priority: u32, place: u32, packet: Packet) {
+fn put(state: &mut presscurlew::State, priority: u32, place: u32, packet: Packet) {
     let (k, place) = (priority as usize, place as usize);
-    state.queues[k].packets[place] = sys::Waiting {
+    state.queues[k].packets[place] = presscurlew::Waiting {
         id: packet.id,
         ontime: packet.ontime,
         lifetime: packet.lifetime,
@@ -37,19 +37,19 @@ fn put(state: &mut sys::State, priority: u32, place: u32, packet: Packet) {
 }
 
 /// The packets of a queue from a place on each move one place forward, and the first of them comes last.
-fn rotate(state: &mut sys::State, priority: usize, place: usize) {
+fn rotate(state: &mut presscurlew::State, priority: usize, place: usize) {
     state.queues[priority].packets[place..].rotate_left(1);
     state.arrivals[priority][place..].rotate_left(1);
 }
 
 /// Shortens the life of a packet so that it expires 6 µs from now.
-fn shorten(state: &mut sys::State, priority: usize, place: usize) {
+fn shorten(state: &mut presscurlew::State, priority: usize, place: usize) {
     let arrival = state.arrivals[priority][place];
     state.queues[priority].packets[place].lifetime = (NOW + 6 - arrival) as u32;
 }
 
 /// A state at 1 s with four full queues, something admitted, and these counts of what has left.
-fn full(profile: u32, way: u32) -> sys::State {
+fn full(profile: u32, way: u32) -> presscurlew::State {
     let mut state = raw(&fresh(profile, way, 500));
     state.time = NOW;
     (state.last_at, state.last_ontime, state.admitted) = (NOW - 3, 7, 1);
@@ -87,7 +87,7 @@ fn new_packet(priority: u32, arrival: u64) -> Packet {
     }
 }
 
-fn hold_turn(state: sys::State, call: &Call, due: sys::State, answer: Answer) {
+fn hold_turn(state: presscurlew::State, call: &Call, due: presscurlew::State, answer: Answer) {
     let expected = Turn {
         state: due,
         reply: raw_reply(&answer),

@@ -358,7 +358,7 @@ fn a_bad_profile_or_way_comes_before_a_bad_list() {
         ] {
             let turn = archive_make(profile, way, &list, 3);
             let due = Turn {
-                state: sys::State::default(),
+                state: presscurlew::State::default(),
                 reply: raw_reply(&Answer::Refused(number)),
             };
             assert_eq!(turn, due, "profile {profile}, way {way}");
@@ -404,7 +404,7 @@ fn only_profile_5_has_a_list_and_loads() {
         let fresh = made(profile, sys::DROP_OLDEST, 0);
         let others = PROFILES.into_iter().filter(|other| *other != profile);
         for other in others.filter(|other| *other == 5 || profile == 5) {
-            let state = sys::State {
+            let state = presscurlew::State {
                 profile: other,
                 ..raw(&fresh)
             };

@@ -114,7 +114,7 @@ fn the_latest_load_is_that_of_the_last_sample_taken() {
                 let fresh = raw(&fresh(4, sys::DROP_OLDEST, 0));
                 assert_eq!(
                     given,
-                    sys::State {
+                    presscurlew::State {
                         latest: due,
                         ..fresh
                     }

@@ -142,8 +142,8 @@ pub const EDGE_STEPS: [u32; 7] = [
 ];
 
 /// A packet of the reference as the archive has it.
-pub fn raw_packet(packet: &Packet) -> sys::Packet {
-    sys::Packet {
+pub fn raw_packet(packet: &Packet) -> presscurlew::Packet {
+    presscurlew::Packet {
         id: packet.id,
         priority: packet.priority,
         ontime: packet.ontime,
@@ -170,17 +170,17 @@ fn due_priority(queue: &Queue, k: u32, place: usize) -> u32 {
 }
 
 /// A queue with its arrivals. There is none for a packet of another priority, and none for a length above 32 bits.
-fn raw_queue(queue: &Queue, k: u32) -> Option<(sys::Queue, [u64; SLOTS])> {
-    let mut raw = sys::Queue {
+fn raw_queue(queue: &Queue, k: u32) -> Option<(presscurlew::Queue, [u64; SLOTS])> {
+    let mut raw = presscurlew::Queue {
         len: u32::try_from(queue.len).ok()?,
-        ..sys::Queue::default()
+        ..presscurlew::Queue::default()
     };
     let mut arrivals = [0; SLOTS];
     for (place, packet) in queue.slots.iter().enumerate() {
         if packet.priority != due_priority(queue, k, place) {
             return None;
         }
-        raw.packets[place] = sys::Waiting {
+        raw.packets[place] = presscurlew::Waiting {
             id: packet.id,
             ontime: packet.ontime,
             lifetime: packet.lifetime,
@@ -191,14 +191,14 @@ fn raw_queue(queue: &Queue, k: u32) -> Option<(sys::Queue, [u64; SLOTS])> {
 }
 
 /// A queue of the archive as the reference has it.
-pub fn read_queue(state: &sys::State, k: usize) -> Queue {
+pub fn read_queue(state: &presscurlew::State, k: usize) -> Queue {
     let raw = &state.queues[k];
     let mut queue = Queue {
         len: u64::from(raw.len),
         ..Queue::default()
     };
     for place in 0..SLOTS {
-        let sys::Waiting {
+        let presscurlew::Waiting {
             id,
             ontime,
             lifetime,
@@ -253,7 +253,7 @@ fn raw_air(ledger: &Ledger, last: u64) -> Option<[u32; sys::MOST_ADMISSIONS]> {
 }
 
 /// The ledger that words say. There is none where a word says more than there was before the last admission.
-fn read_ledger(state: &sys::State) -> Option<Ledger> {
+fn read_ledger(state: &presscurlew::State) -> Option<Ledger> {
     let mut ledger = Ledger {
         len: u64::from(state.admissions),
         ..Ledger::default()
@@ -289,19 +289,19 @@ pub fn raw_levels_if(levels: &Levels) -> Option<sys::Levels> {
 }
 
 /// A state of the reference as the archive has it.
-pub fn raw(state: &State) -> sys::State {
+pub fn raw(state: &State) -> presscurlew::State {
     raw_if(state).unwrap_or_else(|| panic!("the archive's state has no place for it: {state:?}"))
 }
 
 /// The same, if the archive's state has a place for all of it. For a sound state it has. It has none for some ledgers, for
 /// a packet in a queue of another priority, and for a length above 32 bits.
-pub fn raw_if(state: &State) -> Option<sys::State> {
-    let (mut queues, mut arrivals) = ([sys::Queue::default(); 4], [[0; SLOTS]; 4]);
+pub fn raw_if(state: &State) -> Option<presscurlew::State> {
+    let (mut queues, mut arrivals) = ([presscurlew::Queue::default(); 4], [[0; SLOTS]; 4]);
     for (k, queue) in (0..).zip(&state.queues) {
         (queues[k as usize], arrivals[k as usize]) = raw_queue(queue, k)?;
     }
     let levels = raw_levels_if(&state.levels)?;
-    Some(sys::State {
+    Some(presscurlew::State {
         time: state.time,
         last_at: state.at,
         accepted: state.counts.accepted,
@@ -343,7 +343,7 @@ fn read_flag(flag: u32) -> Option<bool> {
 
 /// A state of the archive as the reference has it, which says whether it is sound. None is where a flag is above 1, or
 /// a word of the ledger says more than there was before the last admission.
-pub fn read_state(state: &sys::State) -> Option<State> {
+pub fn read_state(state: &presscurlew::State) -> Option<State> {
     Some(State {
         live: read_flag(state.live)?,
         profile: state.profile,
@@ -381,8 +381,8 @@ pub fn read_state(state: &sys::State) -> Option<State> {
 }
 
 /// Counts of the reference as the archive has them.
-pub fn raw_counts(counts: &Counts) -> sys::Counts {
-    sys::Counts {
+pub fn raw_counts(counts: &Counts) -> presscurlew::Counts {
+    presscurlew::Counts {
         accepted: counts.accepted,
         sent: counts.sent,
         expired: counts.expired,
@@ -410,12 +410,12 @@ pub fn raw_reply(answer: &Answer) -> sys::Reply {
 /// What a call leaves: the state after it, and the answer.
 #[derive(Clone, Copy, Debug, PartialEq, Eq)]
 pub struct Turn {
-    pub state: sys::State,
+    pub state: presscurlew::State,
     pub reply: sys::Reply,
 }
 
 /// The bytes of a state. It has no gaps.
-pub fn bytes_of(state: &sys::State) -> [u8; size_of::<sys::State>()] {
+pub fn bytes_of(state: &presscurlew::State) -> [u8; size_of::<presscurlew::State>()] {
     // SAFETY: the state is numbers of 4 and 8 bytes, which fill it.
     unsafe { std::mem::transmute(*state) }
 }
@@ -424,14 +424,17 @@ pub fn bytes_of(state: &sys::State) -> [u8; size_of::<sys::State>()] {
 #[repr(C)]
 struct Fenced {
     before: [u64; 8],
-    state: sys::State,
+    state: presscurlew::State,
     after: [u64; 8],
 }
 
 const FENCE: [u64; 8] = [0xa5a5_5a5a_c3c3_3c3c; 8];
 
 /// What is done to a state in place, as a function of it. Nothing is written beside it.
-fn in_place<T>(state: &sys::State, act: impl FnOnce(&mut sys::State) -> T) -> (sys::State, T) {
+fn in_place<T>(
+    state: &presscurlew::State,
+    act: impl FnOnce(&mut presscurlew::State) -> T,
+) -> (presscurlew::State, T) {
     let mut fenced = Fenced {
         before: FENCE,
         state: *state,
@@ -449,7 +452,7 @@ fn in_place<T>(state: &sys::State, act: impl FnOnce(&mut sys::State) -> T) -> (s
 
 /// A make of the archive, over a state of any numbers.
 pub fn archive_make(profile: u32, way: u32, list: &sys::Levels, stamp: u32) -> Turn {
-    let mut littered = sys::State {
+    let mut littered = presscurlew::State {
         live: 1,
         profile: 77,
         air: [0xdead_beef; sys::MOST_ADMISSIONS],
@@ -457,7 +460,7 @@ pub fn archive_make(profile: u32, way: u32, list: &sys::Levels, stamp: u32) -> T
         thresholds: [5; sys::MOST_LEVELS],
         waits: [6; sys::MOST_LEVELS],
         arrivals: [[7; SLOTS]; 4],
-        ..sys::State::default()
+        ..presscurlew::State::default()
     };
     littered.queues[1].packets[4].lifetime = 9;
     let lent = *list;
@@ -465,7 +468,7 @@ pub fn archive_make(profile: u32, way: u32, list: &sys::Levels, stamp: u32) -> T
         sys::make(state, profile, way, &lent, stamp)
     });
     assert_eq!(lent, *list, "the lent list was written to");
-    let (again, other) = in_place(&sys::State::default(), |state| {
+    let (again, other) = in_place(&presscurlew::State::default(), |state| {
         sys::make(state, profile, way, list, stamp)
     });
     assert_eq!(
@@ -474,13 +477,13 @@ pub fn archive_make(profile: u32, way: u32, list: &sys::Levels, stamp: u32) -> T
         "a make looked at what was there"
     );
     if reply.kind == sys::REFUSED {
-        assert_eq!(bytes_of(&state), [0; size_of::<sys::State>()]);
+        assert_eq!(bytes_of(&state), [0; size_of::<presscurlew::State>()]);
     }
     Turn { state, reply }
 }
 
 /// A call on the archive. Words that it is lent stay as they are, and a refused call leaves every byte of the state so.
-pub fn archive(given: sys::State, call: &Call) -> Turn {
+pub fn archive(given: presscurlew::State, call: &Call) -> Turn {
     let (state, reply) = in_place(&given, |state| match *call {
         Call::SampleWords {
             probes,
@@ -538,7 +541,7 @@ pub fn hold(state: &State, call: &Call, origin: &dyn Display) -> (State, Answer)
 }
 
 /// Holds a call to the refusal 9, with the state as it was.
-pub fn hold_no_state(state: &sys::State, call: &Call, origin: &dyn Display) {
+pub fn hold_no_state(state: &presscurlew::State, call: &Call, origin: &dyn Display) {
     let expected = Turn {
         state: *state,
         reply: raw_reply(&Answer::Refused(9)),
@@ -549,7 +552,7 @@ pub fn hold_no_state(state: &sys::State, call: &Call, origin: &dyn Display) {
 
 /// Holds a call on any state of the archive to the reference: to its answer and next state where the state is sound, and
 /// to 9 where it isn't. Whether it is.
-pub fn hold_any(state: &sys::State, call: &Call, origin: &dyn Display) -> bool {
+pub fn hold_any(state: &presscurlew::State, call: &Call, origin: &dyn Display) -> bool {
     match read_state(state).filter(sound) {
         Some(read) => {
             assert_eq!(raw(&read), *state, "{origin}: read as {read:?}");
@@ -570,7 +573,7 @@ pub const BLANK: u8 = 0xa5;
 /// A burst, what is behind its pointers included.
 #[derive(Debug, PartialEq, Eq)]
 pub struct Burst {
-    pub state: sys::State,
+    pub state: presscurlew::State,
     pub number: u32,
     /// All answer bytes that were lent, blank at first.
     pub answers: Vec<u8>,
@@ -578,7 +581,7 @@ pub struct Burst {
 
 /// A burst on the archive with so many answer bytes. The records, and what lies around them and around the answers, stay
 /// as they are. Where the bytes start in memory differs with their number.
-pub fn archive_burst(state: sys::State, records: &[u8], room: usize) -> Burst {
+pub fn archive_burst(state: presscurlew::State, records: &[u8], room: usize) -> Burst {
     let fence = 1 + (records.len() / RECORD_BYTES + room) % 17;
     let fenced = |inner: &[u8]| [&vec![BLANK; fence], inner, &vec![BLANK; fence]].concat();
     let (lent, mut answers) = (fenced(records), fenced(&vec![BLANK; room]));
@@ -604,7 +607,7 @@ pub fn archive_burst(state: sys::State, records: &[u8], room: usize) -> Burst {
 }
 
 /// The same by the archive's single calls, one record after the other: what a burst has to equal, if it is not refused.
-pub fn archive_singles(state: sys::State, records: &[u8], room: usize) -> Burst {
+pub fn archive_singles(state: presscurlew::State, records: &[u8], room: usize) -> Burst {
     let (mut state, mut answers) = (state, vec![BLANK; room]);
     for (bytes, answer) in records.chunks_exact(RECORD_BYTES).zip(&mut answers) {
         let record = Record::from_bytes(bytes.try_into().expect("16 bytes"));
@@ -673,7 +676,7 @@ pub fn hold_burst(
 }
 
 /// Holds a burst on a state that is not sound to 9 at each record of kind 2, with the state as it was.
-pub fn hold_no_state_burst(state: &sys::State, stamp: u32, origin: &dyn Display) {
+pub fn hold_no_state_burst(state: &presscurlew::State, stamp: u32, origin: &dyn Display) {
     let kinds = [2, 3, 0, 2, 1, 255, 2];
     let records = kinds.map(|kind| Record {
         kind,

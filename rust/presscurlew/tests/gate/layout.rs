@@ -4,7 +4,8 @@
 use std::fmt::Write;
 use std::mem::{offset_of, size_of};
 
-use presscurlew::sys::{Levels, Packet, Queue, Reply, State, Waiting};
+use presscurlew::sys::{Levels, Reply};
+use presscurlew::{Packet, Queue, State, Waiting};
 
 const LAYOUT: &str = include_str!("../../../../examples/c/layout.out");
 const PLAIN_LAYOUT: &str = include_str!("../../../../examples/c/plain_layout.out");

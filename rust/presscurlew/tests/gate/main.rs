@@ -12,6 +12,8 @@
 //! - `first_edition`: profile 5, which goes by a list of levels and its last loads
 //! - `sample_log`: the requirement's own log
 //! - `safe`: what `Gate` makes of the archive's calls
+//! - `shown`: a gate in a screenful
+//! - `stored`: states as bytes
 //! - `writer`: calls written to a log
 //! - `plain`: the plain engine's archive beside the gate's
 //! - `plain_runs`: both archives through random runs, single calls and bursts, with damaged states in between
@@ -34,5 +36,7 @@ mod safe;
 mod sample_log;
 mod samples;
 mod second;
+mod shown;
 mod sound_states;
+mod stored;
 mod writer;

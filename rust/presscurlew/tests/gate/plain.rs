@@ -8,7 +8,7 @@ use crate::help::{
     read_queue, Answer, Burst, Call, BLANK,
 };
 use plainhost::{Line, State, Turn, PLACES};
-use presscurlew::sys::{self, Packet};
+use presscurlew::{sys, Packet};
 use reference::gate;
 use reference::levels::Levels;
 use reference::log::{Record, RECORD_BYTES};
@@ -186,7 +186,7 @@ fn hold_singles(state: &State, records: &[u8], next: &State, answers: &[u8], ori
 
 /// A line of the packets of a gate's state, in order of arrival. Those that came at the same time stand in any order,
 /// but for those of one priority.
-pub fn lined(gate: &sys::State, rng: &mut Rng) -> State {
+pub fn lined(gate: &presscurlew::State, rng: &mut Rng) -> State {
     let mut queues = [0, 1, 2, 3].map(|k| {
         let queue = read_queue(gate, k);
         let waiting = queue.slots.iter().take(queue.len as usize);

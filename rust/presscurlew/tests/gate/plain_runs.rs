@@ -45,7 +45,7 @@ fn numbers(state: &mut State) -> Vec<Number<'_>> {
     ];
     let mut all: Vec<Number> = lengths.map(Wide).into();
     for packet in &mut line.packets {
-        let sys::Packet {
+        let presscurlew::Packet {
             id,
             priority,
             ontime,

@@ -10,7 +10,7 @@ use crate::help::{archive, calls_at, raw, Call, BLANK, EDGE_STEPS, PROFILES};
 use crate::plain::{hold_alike, hold_alike_burst, hold_no_state, lined, plain_burst};
 use crate::sound_states::sound_state;
 use plainhost::{Counts, Levels, Line, State, PLACES};
-use presscurlew::sys::{self, Packet};
+use presscurlew::{sys, Packet};
 use reference::log::Record;
 use reference::rng::Rng;
 use reference::rules;

@@ -25,7 +25,7 @@ pub fn late(profile: u32, way: u32, accepted: u64) -> State {
 }
 
 /// Holds a call to a refusal, with the state as it was; 0 stands for none.
-fn hold_number(state: &sys::State, call: &Call, number: u32) {
+fn hold_number(state: &presscurlew::State, call: &Call, number: u32) {
     let turn = archive(*state, call);
     if number == 0 {
         assert_ne!(turn.reply.kind, sys::REFUSED, "{call:?} on {state:?}");
@@ -48,7 +48,7 @@ const STEPS: [(u32, u32); 5] = [
 ];
 
 /// A state, and two that are not sound, with the stamps of the steps from it.
-fn each_place(mut hold: impl FnMut(u32, &sys::State, u32, u32)) {
+fn each_place(mut hold: impl FnMut(u32, &presscurlew::State, u32, u32)) {
     for (profile, way) in gates() {
         for accepted in [5, ACCEPTED_MOST - 1, ACCEPTED_MOST] {
             let state = raw(&late(profile, way, accepted));

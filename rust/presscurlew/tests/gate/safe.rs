@@ -6,13 +6,13 @@ use crate::help::{
     PROFILES, WHEN_FULL,
 };
 use crate::sound_states::sound_state;
-use presscurlew::{sys, Gate, Offer, Packet, Profile, Refusal, WhenFull};
+use presscurlew::{Gate, Offer, Packet, Profile, Refusal, State, WhenFull};
 use reference::book::Book;
 use reference::gate;
 use reference::rng::Rng;
 
 /// What a call on a `Gate` says, in the reference's words.
-fn said(gate: &mut Gate, call: &Call) -> Answer {
+pub fn said(gate: &mut Gate, call: &Call) -> Answer {
     let answer = match *call {
         Call::SampleWords {
             probes,
@@ -69,7 +69,8 @@ pub fn polled(answer: presscurlew::Answer) -> Answer {
     }
 }
 
-fn any_call(rng: &mut Rng, last: u32) -> Call {
+/// Any call after the stamp `last`, most often one that is taken.
+pub fn any_call(rng: &mut Rng, last: u32) -> Call {
     let step = if rng.one_in(30) {
         rng.pick(&EDGE_STEPS)
     } else {
@@ -198,7 +199,7 @@ fn a_stored_state_goes_on() {
 /// A state that is not sound is no gate's, whatever rule it breaks.
 #[test]
 fn a_state_that_is_not_sound_makes_no_gate() {
-    assert_eq!(Gate::resume(sys::State::default()), Err(Refusal::NoState));
+    assert_eq!(Gate::resume(State::default()), Err(Refusal::NoState));
     let mut seen = 0;
     for (rule, state) in broken_states() {
         let resumed = Gate::resume(raw(&state));

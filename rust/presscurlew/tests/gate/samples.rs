@@ -11,8 +11,8 @@ const MOST: u32 = 12_500;
 /// Probe counts of one word, of whole words, of the old sample and of the most words.
 const SOME_PROBES: [u32; 9] = [1, 3, 63, 64, 65, 1_000, 1_024, 12_480, MOST];
 
-fn fresh() -> sys::State {
-    let mut state = sys::State::default();
+fn fresh() -> presscurlew::State {
+    let mut state = presscurlew::State::default();
     let made = sys::make(&mut state, 3, sys::DROP_OLDEST, &sys::Levels::NONE, 0);
     assert_eq!(made.kind, sys::READY);
     state
@@ -25,7 +25,7 @@ fn count(probes: u32, words: &[u64]) -> u32 {
 }
 
 /// What a first sample of this load leaves.
-fn kept(load: u64) -> sys::State {
+fn kept(load: u64) -> presscurlew::State {
     let mut state = fresh();
     state.pairing = 1;
     state.kept = load as u32;

@@ -274,7 +274,7 @@ fn in_words(held: &[(u64, u32)]) -> (u32, [u32; sys::MOST_ADMISSIONS]) {
 }
 
 /// What a state holds of the last second.
-fn held_by(state: &sys::State) -> (u32, [u32; sys::MOST_ADMISSIONS]) {
+fn held_by(state: &presscurlew::State) -> (u32, [u32; sys::MOST_ADMISSIONS]) {
     (state.admissions, state.air)
 }
 
@@ -328,7 +328,7 @@ fn every_accepted_call_drops_what_has_aged() {
                         // The words of the others now say how long before this one they were made.
                         due.push((NOW + u64::from(step), 1));
                     } else {
-                        let last = |s: &sys::State| (s.last_at, s.last_ontime, s.admitted);
+                        let last = |s: &presscurlew::State| (s.last_at, s.last_ontime, s.admitted);
                         assert_eq!(last(&turn.state), last(&state), "{call:?}");
                     }
                     let held = held_by(&turn.state);
@@ -603,7 +603,7 @@ fn a_gate_keeps_the_second() {
         let sent = matches!(answer, presscurlew::Answer::Sent(_));
         assert_eq!(sent, id < 7);
     }
-    let one = |at| sys::Admission { at, ontime: 4_000 };
+    let one = |at| presscurlew::Admission { at, ontime: 4_000 };
     let held = [0, 133_334, 266_668, 400_002, 533_336, 666_670, 800_004].map(one);
     assert!(gate.state().last_second().eq(held));
     let words = in_words(&held.map(|held| (held.at, held.ontime)));
