@@ -1114,7 +1114,7 @@ presscurlew_duty_answer presscurlew_duty_update(uint32_t duty, uint32_t smoothed
  *                  (3,999 - floor(2,480,000 / c)) x ontime, held in 25,000 to 1,000,000
  *
  * In profile 4 the factor before the on-time is 6 for c = 621, 12 for 622, 457 for 700 and 1,519 for 1,000. The wait is
- * never shorter than that of the published formula, without rounding and held in the same limits.
+ * never shorter than that of the published formula for the load given, without rounding and held in the same limits.
  *
  * Level, duty and load change with each sample, so take the wait afresh each time that it is needed.
  *

@@ -2,10 +2,11 @@
 -- definition that reads a sentence otherwise fails here.
 use Prim.Native.Nat.{ℕ, _*_, _≤_}
 use mathlib.Core.Path.{_≡_, refl}
-use mathlib.Core.Bool.{true, false}
+use mathlib.Core.Bool.{true, false, cond}
 use mathlib.Core.List.{List, [], _∷_, _++_, map}
+use lib.Dec.{eqb}
 use lib.ListN.{replicate}
-use Rattle.rules.specs.Profiles.{within, reactiveOf, mostOntime, ontimeAllowed}
+use Rattle.rules.specs.Profiles.{within, profiles, reactiveOf, mostOntime, ontimeAllowed}
 use Rattle.rules.specs.Levels.{wantedBy, towards, waitBy}
 use Rattle.rules.specs.Duty.{smoothedOf, offsetOf, dutyOf}
 use Rattle.rules.specs.Wait.{adaptiveWait, startOf}
@@ -23,8 +24,12 @@ use Rattle.control.specs.Wait.{waitOf, waitWith, closedAfter}
 use Rattle.control.specs.Owed.{spare, leastGap, second, quiet, claimsCeiling}
 use Rattle.control.proofs.Owed.{floors, all-keep, claimants-keep}
 
--- a control by its numbers: profile, level, duty, smoothed load, kept sample, whether one is kept, latest load; with
--- no list and no loads
+-- a list of two levels above level 0: reached at 30 % and 60 %, with waits of 60 ms, 100 ms and 1 s
+abbrev two : Levels
+two = levelsOf 2 60000 (300000 ∷ 600000 ∷ replicate 6 0) (100000 ∷ 1000000 ∷ replicate 6 0)
+
+-- a control by its numbers: profile, level, duty, smoothed load, kept sample, whether one is kept, latest load; with that
+-- list in profile 5 and none elsewhere, and no loads
 abbrev whole : (profile level duty smoothed kept pairing latest : ℕ) → Control
 whole profile level duty smoothed kept pairing latest =
     controlOf profile (record {
@@ -34,15 +39,11 @@ whole profile level duty smoothed kept pairing latest =
       kept = kept;
       pairing = pairing;
       latest = latest;
-    }) noLevels noLoads
+    }) (cond (eqb profile 5) two noLevels) noLoads
 
 -- one without a latest load
 abbrev control : (profile level duty smoothed kept pairing : ℕ) → Control
 control profile level duty smoothed kept pairing = whole profile level duty smoothed kept pairing 0
-
--- a list of two levels above level 0: reached at 30 % and 60 %, with waits of 60 ms, 100 ms and 1 s
-abbrev two : Levels
-two = levelsOf 2 60000 (300000 ∷ 600000 ∷ replicate 6 0) (100000 ∷ 1000000 ∷ replicate 6 0)
 
 -- a control of profile 5: its list, its level and its loads
 abbrev listed : Levels → (level : ℕ) → List ℕ → Control
@@ -50,13 +51,14 @@ listed list level xs = controlOf 5 (control 5 level 600000 0 0 0 .tuning) list (
 
 -- "A fresh state: .. level 0, duty 600,000, smoothed load 0, no sample kept"; "0 before any sample" (W-209)
 fresh-controls :
-    map (λ (p : ℕ). freshControl p two) (1 ∷ 2 ∷ 3 ∷ 4 ∷ [])
+    map (λ (p : ℕ). freshControl p two) profiles
     ≡ whole 1 0 600000 0 0 0 0
     ∷ whole 2 0 600000 0 0 0 0
     ∷ whole 3 0 600000 0 0 0 0
     ∷ whole 4 0 600000 0 0 0 0
+    ∷ whole 5 0 600000 0 0 0 0
     ∷ []
-unfolding listKept
+unfolding listKept tidied packing.filled
 fresh-controls = refl
 
 -- "a bad list with profile 1 is READY, and the state's list is zero" (reading 22); in profile 5 it is the list handed over,
@@ -80,24 +82,29 @@ of-soundness = Unit {0}
 
 -- "profile 1 to 3"; "a sound state may have profile 4" (W-209), and 5 "and then has such a list" (W-213)
 sound-profiles :
-    map (λ (p : ℕ). soundControl (control p 0 600000 0 0 0)) (0 ∷ 1 ∷ 2 ∷ 3 ∷ 4 ∷ 5 ∷ [])
-    ≡ false ∷ true ∷ true ∷ true ∷ true ∷ false ∷ []
+    map (λ (p : ℕ). soundControl (control p 0 600000 0 0 0)) (0 ∷ profiles ++ 6 ∷ [])
+    ≡ false ∷ true ∷ true ∷ true ∷ true ∷ true ∷ false ∷ []
 unfolding of-soundness
 sound-profiles = refl
 
--- "level at most 4", in every profile
+-- "level at most 4"; in profile 5 "a level of it", which has 2 above level 0
 sound-levels :
-    map (λ (p : ℕ). map (λ (level : ℕ). soundControl (control p level 600000 0 0 0)) (0 ∷ 4 ∷ 5 ∷ []))
-    (1 ∷ 2 ∷ 3 ∷ 4 ∷ [])
-    ≡ (true ∷ true ∷ false ∷ []) ∷ (true ∷ true ∷ false ∷ []) ∷ (true ∷ true ∷ false ∷ []) ∷ (true ∷ true ∷ false ∷ []) ∷ []
+    map (λ (p : ℕ). map (λ (level : ℕ). soundControl (control p level 600000 0 0 0)) (0 ∷ 2 ∷ 3 ∷ 4 ∷ 5 ∷ [])) profiles
+    ≡ (true ∷ true ∷ true ∷ true ∷ false ∷ [])
+    ∷ (true ∷ true ∷ true ∷ true ∷ false ∷ [])
+    ∷ (true ∷ true ∷ true ∷ true ∷ false ∷ [])
+    ∷ (true ∷ true ∷ true ∷ true ∷ false ∷ [])
+    ∷ (true ∷ true ∷ false ∷ false ∷ false ∷ [])
+    ∷ []
 unfolding of-soundness
 sound-levels = refl
 
 -- "duty 600,000 to 30,000,000", in every profile
 sound-duties :
     map (λ (p : ℕ). map (λ (duty : ℕ). soundControl (control p 0 duty 0 0 0)) (599999 ∷ 600000 ∷ 30000000 ∷ 30000001 ∷ []))
-    (1 ∷ 2 ∷ 3 ∷ 4 ∷ [])
+    profiles
     ≡ (false ∷ true ∷ true ∷ false ∷ [])
+    ∷ (false ∷ true ∷ true ∷ false ∷ [])
     ∷ (false ∷ true ∷ true ∷ false ∷ [])
     ∷ (false ∷ true ∷ true ∷ false ∷ [])
     ∷ (false ∷ true ∷ true ∷ false ∷ [])
@@ -108,8 +115,13 @@ sound-duties = refl
 -- "loads at most 1,000,000", in every profile
 sound-smoothed-loads :
     map (λ (p : ℕ). map (λ (load : ℕ). soundControl (control p 0 600000 load 0 0)) (1 ∷ 1000000 ∷ 1000001 ∷ []))
-    (1 ∷ 2 ∷ 3 ∷ 4 ∷ [])
-    ≡ (true ∷ true ∷ false ∷ []) ∷ (true ∷ true ∷ false ∷ []) ∷ (true ∷ true ∷ false ∷ []) ∷ (true ∷ true ∷ false ∷ []) ∷ []
+    profiles
+    ≡ (true ∷ true ∷ false ∷ [])
+    ∷ (true ∷ true ∷ false ∷ [])
+    ∷ (true ∷ true ∷ false ∷ [])
+    ∷ (true ∷ true ∷ false ∷ [])
+    ∷ (true ∷ true ∷ false ∷ [])
+    ∷ []
 unfolding of-soundness
 sound-smoothed-loads = refl
 
@@ -121,13 +133,13 @@ sound-kept-loads = refl
 
 -- "a sample kept only in profile 3"
 sample-kept-only-in-profile-3 :
-    map (λ (p : ℕ). soundControl (control p 0 600000 0 0 1)) (1 ∷ 2 ∷ 3 ∷ 4 ∷ []) ≡ false ∷ false ∷ true ∷ false ∷ []
+    map (λ (p : ℕ). soundControl (control p 0 600000 0 0 1)) profiles ≡ false ∷ false ∷ true ∷ false ∷ false ∷ []
 unfolding of-soundness
 sample-kept-only-in-profile-3 = refl
 
 -- "everything unused is zero": "the kept sample when none is kept"
 nothing-in-an-unused-sample :
-    map (λ (p : ℕ). soundControl (control p 0 600000 0 1 0)) (1 ∷ 2 ∷ 3 ∷ 4 ∷ []) ≡ false ∷ false ∷ false ∷ false ∷ []
+    map (λ (p : ℕ). soundControl (control p 0 600000 0 1 0)) profiles ≡ false ∷ false ∷ false ∷ false ∷ false ∷ []
 unfolding of-soundness
 nothing-in-an-unused-sample = refl
 
@@ -139,11 +151,12 @@ one-is-kept-or-none = refl
 -- "loads at most 1,000,000", and the latest load "is kept in profile 4 alone and zero elsewhere"
 sound-latest-loads :
     map (λ (p : ℕ). map (λ (load : ℕ). soundControl (whole p 0 600000 0 0 0 load)) (0 ∷ 1 ∷ 1000000 ∷ 1000001 ∷ []))
-    (1 ∷ 2 ∷ 3 ∷ 4 ∷ [])
+    profiles
     ≡ (true ∷ false ∷ false ∷ false ∷ [])
     ∷ (true ∷ false ∷ false ∷ false ∷ [])
     ∷ (true ∷ false ∷ false ∷ false ∷ [])
     ∷ (true ∷ true ∷ true ∷ false ∷ [])
+    ∷ (true ∷ false ∷ false ∷ false ∷ [])
     ∷ []
 unfolding of-soundness
 sound-latest-loads = refl
@@ -167,31 +180,41 @@ sound-loads-of-a-list :
 unfolding of-soundness
 sound-loads-of-a-list = refl
 
--- "another profile's state has it zero": no list and no loads in profiles 1 to 4
+-- "another profile's state has it zero": a list in profile 5 alone, and loads in no other
 no-list-elsewhere :
     map (λ (p : ℕ).
     soundControl (controlOf p (listed two 0 [] .tuning) two noLoads)
     ∷ soundControl (controlOf p (listed two 0 [] .tuning) noLevels (packed (0 ∷ [])))
     ∷ soundControl (controlOf p (listed two 0 [] .tuning) noLevels noLoads)
     ∷ [])
-    (1 ∷ 2 ∷ 3 ∷ 4 ∷ [])
+    profiles
     ≡ (false ∷ false ∷ true ∷ [])
     ∷ (false ∷ false ∷ true ∷ [])
     ∷ (false ∷ false ∷ true ∷ [])
     ∷ (false ∷ false ∷ true ∷ [])
+    ∷ (true ∷ false ∷ false ∷ [])
     ∷ []
 unfolding of-soundness
 no-list-elsewhere = refl
 
--- odd, and sound by the letter: profiles 1, 2 and 4 with a duty and a smoothed load, profiles 3 and 4 with a level
+-- "A sound state may have a level outside up to down" (reading 22): the last 50 loads are 0, or the highest there is, and the
+-- level is the last one, or 0
+level-outside-up-to-down :
+    map soundControl (listed two 2 (replicate 50 0) ∷ listed two 0 (replicate 50 1000000) ∷ [])
+    ≡ true ∷ true ∷ []
+unfolding of-soundness
+level-outside-up-to-down = refl
+
+-- odd, and sound by the letter: profiles 1, 2, 4 and 5 with a duty and a smoothed load, profiles 3 and 4 with a level
 odd-but-sound :
     map soundControl
     (control 1 4 12345678 1000000 0 0
     ∷ control 2 3 30000000 680000 0 0
     ∷ control 3 4 12345678 1000000 1000000 1
     ∷ whole 4 4 12345678 1000000 0 0 1000000
+    ∷ control 5 2 12345678 1000000 0 0
     ∷ [])
-    ≡ true ∷ true ∷ true ∷ true ∷ []
+    ≡ true ∷ true ∷ true ∷ true ∷ true ∷ []
 unfolding of-soundness
 odd-but-sound = refl
 
@@ -329,16 +352,16 @@ sample-of-profile-5 : sampled (listed two 1 (5 ∷ 7 ∷ [])) 300000 ≡ listed 
 unfolding of-samples of-lists
 sample-of-profile-5 = refl
 
--- no other profile touches it: whatever the numbers
-profiles-1-to-3-keep-no-latest-load :
+-- the latest load is profile 4's: no other touches it, whatever the numbers
+latest-load-in-profile-4-alone :
     (level duty smoothed kept load : ℕ)
     → map
     (λ (p : ℕ). map (λ (pairing : ℕ). sampled (control p level duty smoothed kept pairing) load .tuning .latest)
     (0 ∷ 1 ∷ []))
-    (1 ∷ 2 ∷ 3 ∷ [])
-    ≡ (0 ∷ 0 ∷ []) ∷ (0 ∷ 0 ∷ []) ∷ (0 ∷ 0 ∷ []) ∷ []
-unfolding of-samples
-profiles-1-to-3-keep-no-latest-load level duty smoothed kept load = refl
+    profiles
+    ≡ (0 ∷ 0 ∷ []) ∷ (0 ∷ 0 ∷ []) ∷ (0 ∷ 0 ∷ []) ∷ (load ∷ load ∷ []) ∷ (0 ∷ 0 ∷ []) ∷ []
+unfolding of-samples of-lists
+latest-load-in-profile-4-alone level duty smoothed kept load = refl
 
 -- The wait, and how long it keeps the gate closed.
 unfoldable of-waits : Type 0
@@ -438,7 +461,7 @@ closed-in-profile-4 = refl
 
 -- "its floor reads 1,001,000 µs for profile 1, 1,000,500 for profile 2 and 1,000,000 for profile 3" (W-202); "Its floor is
 -- 1,004,000 µs." (W-209); "the floor is 1,001,000 µs" (W-213)
-quiet-times : map quiet (1 ∷ 2 ∷ 3 ∷ 4 ∷ 5 ∷ []) ≡ 1001000 ∷ 1000500 ∷ 1000000 ∷ 1004000 ∷ 1001000 ∷ []
+quiet-times : map quiet profiles ≡ 1001000 ∷ 1000500 ∷ 1000000 ∷ 1004000 ∷ 1001000 ∷ []
 unfolding of-waits
 quiet-times = refl
 
@@ -452,7 +475,7 @@ spare-gap-second = refl
 
 -- "Demand 3's ceiling stands" (W-202); "01's ceiling isn't claimed for it" (W-209): profile 4 may admit 4,000 µs every 29,000;
 -- in profile 5 "01's ceiling holds" (W-213)
-ceiling-claimed : map claimsCeiling (0 ∷ 1 ∷ 2 ∷ 3 ∷ 4 ∷ 5 ∷ 6 ∷ []) ≡ false ∷ true ∷ true ∷ true ∷ false ∷ true ∷ false ∷ []
+ceiling-claimed : map claimsCeiling (0 ∷ profiles ++ 6 ∷ []) ≡ false ∷ true ∷ true ∷ true ∷ false ∷ true ∷ false ∷ []
 unfolding of-waits
 ceiling-claimed = refl
 

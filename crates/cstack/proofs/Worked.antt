@@ -3,7 +3,8 @@
 use Prim.Native.Nat.{ℕ}
 use mathlib.Core.Path.{_≡_, refl}
 use mathlib.Core.List.{List, [], _∷_, _++_, map}
-use Rattle.rules.specs.Profiles.{within, reactiveOf, mostOntime, ontimeAllowed}
+use lib.ListN.{replicate}
+use Rattle.rules.specs.Profiles.{within, profiles, reactiveOf, mostOntime, ontimeAllowed}
 use Rattle.rules.specs.Refusals.{Check, firstOf}
 use Rattle.rules.specs.Levels.{wantedBy, towards, waitBy}
 use Rattle.rules.specs.Duty.{smoothedOf, offsetOf, dutyOf}
@@ -51,8 +52,8 @@ refused n = record { refusal = n; level = 0 }
 -- "The wanted level takes a profile, 1 or 2, and a load"
 
 wanted-profiles :
-    map (λ (p : ℕ). wantedAnswer p 620000) (0 ∷ 1 ∷ 2 ∷ 3 ∷ 4 ∷ [])
-    ≡ refused 1 ∷ level 4 ∷ level 3 ∷ refused 1 ∷ refused 1 ∷ []
+    map (λ (p : ℕ). wantedAnswer p 620000) (0 ∷ profiles ++ 6 ∷ [])
+    ≡ refused 1 ∷ level 4 ∷ level 3 ∷ refused 1 ∷ refused 1 ∷ refused 1 ∷ refused 1 ∷ []
 unfolding of-levels
 wanted-profiles = refl
 
@@ -65,8 +66,8 @@ wanted-loads = refl
 -- "the step takes those and the level"
 
 step-profiles :
-    map (λ (p : ℕ). stepAnswer p 620000 3) (0 ∷ 1 ∷ 2 ∷ 3 ∷ 4 ∷ [])
-    ≡ refused 1 ∷ level 4 ∷ level 3 ∷ refused 1 ∷ refused 1 ∷ []
+    map (λ (p : ℕ). stepAnswer p 620000 3) (0 ∷ profiles ++ 6 ∷ [])
+    ≡ refused 1 ∷ level 4 ∷ level 3 ∷ refused 1 ∷ refused 1 ∷ refused 1 ∷ refused 1 ∷ []
 unfolding of-levels
 step-profiles = refl
 
@@ -139,39 +140,42 @@ noWait n = record { refusal = n; wait = 0 }
 
 -- "in the C wait a profile outside 1 to 4 now gets number 1" (W-209)
 wait-profiles :
-    map (λ (p : ℕ). wait p 0 600000 400 700000) (0 ∷ 1 ∷ 2 ∷ 3 ∷ 4 ∷ 5 ∷ [])
-    ≡ noWait 1 ∷ waits 100000 ∷ waits 50000 ∷ waits 666667 ∷ waits 182800 ∷ noWait 1 ∷ []
+    map (λ (p : ℕ). wait p 0 600000 400 700000) (0 ∷ profiles ++ 6 ∷ [])
+    ≡ noWait 1 ∷ waits 100000 ∷ waits 50000 ∷ waits 666667 ∷ waits 182800 ∷ noWait 1 ∷ noWait 1 ∷ []
 unfolding wait
 wait-profiles = refl
 
 wait-levels :
-    map (λ (p : ℕ). map (λ (n : ℕ). wait p n 30000000 400 0) (0 ∷ 1 ∷ 2 ∷ 3 ∷ 4 ∷ 5 ∷ [])) (1 ∷ 2 ∷ 3 ∷ 4 ∷ [])
+    map (λ (p : ℕ). map (λ (n : ℕ). wait p n 30000000 400 0) (0 ∷ 1 ∷ 2 ∷ 3 ∷ 4 ∷ 5 ∷ [])) profiles
     ≡ (waits 100000 ∷ waits 200000 ∷ waits 400000 ∷ waits 500000 ∷ waits 1000000 ∷ noWait 9 ∷ [])
     ∷ (waits 50000 ∷ waits 100000 ∷ waits 200000 ∷ waits 250000 ∷ waits 1000000 ∷ noWait 9 ∷ [])
     ∷ (waits 25000 ∷ waits 25000 ∷ waits 25000 ∷ waits 25000 ∷ waits 25000 ∷ noWait 9 ∷ [])
     ∷ (waits 25000 ∷ waits 25000 ∷ waits 25000 ∷ waits 25000 ∷ waits 25000 ∷ noWait 9 ∷ [])
+    ∷ replicate 6 (noWait 1)
     ∷ []
 unfolding wait
 wait-levels = refl
 
 wait-duties :
     map (λ (p : ℕ). map (λ (duty : ℕ). wait p 1 duty 500 700000) (599999 ∷ 600000 ∷ 30000000 ∷ 30000001 ∷ []))
-    (1 ∷ 2 ∷ 3 ∷ 4 ∷ [])
+    profiles
     ≡ (noWait 9 ∷ waits 200000 ∷ waits 200000 ∷ noWait 9 ∷ [])
     ∷ (noWait 9 ∷ waits 100000 ∷ waits 100000 ∷ noWait 9 ∷ [])
     ∷ (noWait 9 ∷ waits 833334 ∷ waits 25000 ∷ noWait 9 ∷ [])
     ∷ (noWait 9 ∷ waits 228500 ∷ waits 228500 ∷ noWait 9 ∷ [])
+    ∷ replicate 4 (noWait 1)
     ∷ []
 unfolding wait
 wait-duties = refl
 
 -- "4 load", in every profile
 wait-loads :
-    map (λ (p : ℕ). map (wait p 0 30000000 400) (0 ∷ 620000 ∷ 620001 ∷ 700000 ∷ 1000000 ∷ 1000001 ∷ [])) (1 ∷ 2 ∷ 3 ∷ 4 ∷ [])
+    map (λ (p : ℕ). map (wait p 0 30000000 400) (0 ∷ 620000 ∷ 620001 ∷ 700000 ∷ 1000000 ∷ 1000001 ∷ [])) profiles
     ≡ (waits 100000 ∷ waits 100000 ∷ waits 100000 ∷ waits 100000 ∷ waits 100000 ∷ noWait 4 ∷ [])
     ∷ (waits 50000 ∷ waits 50000 ∷ waits 50000 ∷ waits 50000 ∷ waits 50000 ∷ noWait 4 ∷ [])
     ∷ (waits 25000 ∷ waits 25000 ∷ waits 25000 ∷ waits 25000 ∷ waits 25000 ∷ noWait 4 ∷ [])
     ∷ (waits 25000 ∷ waits 25000 ∷ waits 25000 ∷ waits 182800 ∷ waits 607600 ∷ noWait 4 ∷ [])
+    ∷ replicate 6 (noWait 1)
     ∷ []
 unfolding wait
 wait-loads = refl
@@ -182,11 +186,12 @@ wait-on-times :
     ++ map (λ (ontime : ℕ). wait 2 3 30000000 ontime 0) (0 ∷ 1 ∷ 500 ∷ 501 ∷ [])
     ++ map (λ (ontime : ℕ). wait 3 3 30000000 ontime 0) (0 ∷ 1 ∷ 4000 ∷ 4001 ∷ [])
     ++ map (λ (ontime : ℕ). wait 4 3 30000000 ontime 700000) (0 ∷ 1 ∷ 4000 ∷ 4001 ∷ [])
+    ++ map (λ (ontime : ℕ). wait 5 3 30000000 ontime 0) (0 ∷ 1 ∷ 1000 ∷ 1001 ∷ [])
     ≡ noWait 6 ∷ waits 500000 ∷ waits 500000 ∷ noWait 6
     ∷ noWait 6 ∷ waits 250000 ∷ waits 250000 ∷ noWait 6
     ∷ noWait 6 ∷ waits 25000 ∷ waits 133334 ∷ noWait 6
     ∷ noWait 6 ∷ waits 25000 ∷ waits 1000000 ∷ noWait 6
-    ∷ []
+    ∷ replicate 4 (noWait 1)
 unfolding wait
 wait-on-times = refl
 

@@ -1,9 +1,11 @@
 -- Worked examples of states in rows, each computed from the definitions.
 use Prim.Native.Nat.{ℕ, zero, suc, _+_, _*_}
 use mathlib.Core.Path.{_≡_, refl}
-use mathlib.Core.Bool.{true}
+use mathlib.Core.Bool.{true, cond}
 use mathlib.Core.List.{List, [], _∷_, _++_, map}
+use lib.Dec.{eqb}
 use lib.ListN.{set, replicate}
+use Rattle.rules.specs.Profiles.{profiles}
 use Rattle.machine.specs.declared.Levels.{Levels}
 use Rattle.machine.specs.declared.Loads.{Loads}
 use Rattle.machine.specs.Levels.{levelsOf, noLevels}
@@ -37,9 +39,6 @@ zeros n = replicate n 0
 -- the same number for each of the five profiles
 abbrev five : {A : Type 0} → A → List A
 five x = replicate 5 x
-
-abbrev profiles : List ℕ
-profiles = 1 ∷ 2 ∷ 3 ∷ 4 ∷ 5 ∷ []
 
 -- a list of two levels, reached at 20 % and 50 %, with waits of 60, 100 and 400 ms, which profile 5 alone looks at
 abbrev two : Levels
@@ -351,14 +350,12 @@ startsWith profile oldway =
       live = 1;
       admissions = 0;
       loads = 0;
-      levels = 0;
-      calm = 0;
+      levels = cond (eqb profile 5) 2 0;
+      calm = cond (eqb profile 5) 60000 0;
     }
 
 fresh-heads :
-    (map (λ (p : ℕ). fresh p .head) (1 ∷ 2 ∷ 3 ∷ 4 ∷ []) ≡ map (λ (p : ℕ). startsWith p 0) (1 ∷ 2 ∷ 3 ∷ 4 ∷ []))
-    × (makeState (makingOf 4 1 two 7) .state .head ≡ startsWith 4 1)
-    × (fresh 5 .head .levels ≡ 2)
-    × (fresh 5 .head .calm ≡ 60000)
+    map (λ (p : ℕ). map (λ (way : ℕ). makeState (makingOf p way two 7) .state .head) (0 ∷ 1 ∷ [])) profiles
+    ≡ map (λ (p : ℕ). startsWith p 0 ∷ startsWith p 1 ∷ []) profiles
 unfolding of-states
-fresh-heads = (refl, refl, refl, refl)
+fresh-heads = refl

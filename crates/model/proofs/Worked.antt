@@ -4,7 +4,9 @@ use Prim.Native.Nat.{ℕ, _+_}
 use mathlib.Core.Path.{_≡_, refl}
 use mathlib.Core.Bool.{cond}
 use mathlib.Core.List.{List, [], _∷_, _++_, map}
+use lib.Dec.{eqb}
 use lib.ListN.{replicate}
+use Rattle.rules.specs.Profiles.{profiles, byProfile}
 use Rattle.rules.specs.Refusals.{Check}
 use Rattle.machine.specs.declared.Levels.{Levels}
 use Rattle.machine.specs.Levels.{levelsOf, noLevels}
@@ -43,17 +45,26 @@ abbrev pub withDisplaced : (displaced : ℕ) → Counts → Counts
 withDisplaced displaced c =
     record { accepted = c .accepted; sent = c .sent; expired = c .expired; displaced = displaced }
 
+-- a list of one level, reached at 30 %, with waits of 60 ms and 1 s; what a sound state of a profile has of it
+abbrev pub oneLevel : Levels
+oneLevel = levelsOf 1 60000 (300000 ∷ replicate 7 0) (1000000 ∷ replicate 7 0)
+
+abbrev listOf : (profile : ℕ) → Levels
+listOf profile = cond (eqb profile 5) oneLevel noLevels
+
 -- without a latest load
 abbrev pub steered : (profile level duty smoothed kept pairing : ℕ) → Control
 steered profile level duty smoothed kept pairing =
     controlOf profile
-    (record { level = level; duty = duty; smoothed = smoothed; kept = kept; pairing = pairing; latest = 0 }) noLevels noLoads
+    (record { level = level; duty = duty; smoothed = smoothed; kept = kept; pairing = pairing; latest = 0 }) (listOf profile)
+    noLoads
 
 -- with one, and no sample kept
 abbrev pub lately : (profile level duty smoothed latest : ℕ) → Control
 lately profile level duty smoothed latest =
     controlOf profile
-    (record { level = level; duty = duty; smoothed = smoothed; kept = 0; pairing = 0; latest = latest }) noLevels noLoads
+    (record { level = level; duty = duty; smoothed = smoothed; kept = 0; pairing = 0; latest = latest }) (listOf profile)
+    noLoads
 
 abbrev pub packet : (id priority ontime lifetime arrival : ℕ) → Packet
 packet id priority ontime lifetime arrival =
@@ -98,12 +109,12 @@ withWay oldway v =
       waiting = v .waiting;
     }
 
--- in the new way, and in the old one; without a list
+-- in the new way, and in the old one; with a list, which profile 5 alone looks at
 abbrev pub making : (profile stamp : ℕ) → Making
-making profile stamp = makingOf profile 0 noLevels stamp
+making profile stamp = makingOf profile 0 oneLevel stamp
 
 abbrev pub makingOld : (profile stamp : ℕ) → Making
-makingOld profile stamp = makingOf profile 1 noLevels stamp
+makingOld profile stamp = makingOf profile 1 oneLevel stamp
 
 abbrev pub offering : (stamp id priority ontime lifetime : ℕ) → Call
 offering stamp id priority ontime lifetime =
@@ -180,16 +191,19 @@ unfolding made
 timed time = withClock (made 1) (clockAt time 0)
 
 -- 1 "at making a profile outside 1 to 5 gets number 1" (W-213); 15 "A list that breaks a rule is refused at making with 15,
--- BAD-LIST, after 1; it is judged for profile 5 alone": an empty one here
-profiles :
-    map (λ (n : ℕ). make (making n 5) .answer) (0 ∷ 1 ∷ 2 ∷ 3 ∷ 4 ∷ 5 ∷ 6 ∷ [])
-    ≡ Refused 1 ∷ Ready ∷ Ready ∷ Ready ∷ Ready ∷ Refused 15 ∷ Refused 1 ∷ []
+-- BAD-LIST, after 1; it is judged for profile 5 alone": a good one here, and an empty one
+made-profiles :
+    map (λ (n : ℕ). make (making n 5) .answer ∷ make (makingOf n 0 noLevels 5) .answer ∷ []) (0 ∷ profiles ++ 6 ∷ [])
+    ≡ (Refused 1 ∷ Refused 1 ∷ [])
+    ∷ (Ready ∷ Ready ∷ [])
+    ∷ (Ready ∷ Ready ∷ [])
+    ∷ (Ready ∷ Ready ∷ [])
+    ∷ (Ready ∷ Ready ∷ [])
+    ∷ (Ready ∷ Refused 15 ∷ [])
+    ∷ (Refused 1 ∷ Refused 1 ∷ [])
+    ∷ []
 unfolding of-runs
-profiles = refl
-
--- a list of one level, reached at 30 %, with waits of 60 ms and 1 s
-abbrev pub oneLevel : Levels
-oneLevel = levelsOf 1 60000 (300000 ∷ replicate 7 0) (1000000 ∷ replicate 7 0)
+made-profiles = refl
 
 -- a good list, one whose threshold is 0, and a way that is neither 0 nor 1: 1 comes before 15
 lists :
@@ -205,7 +219,7 @@ lists = refl
 
 -- "a bad list with profile 1 is READY, and the state's list is zero" (reading 22); a refused make's too
 lists-in-the-state :
-    map (λ (m : Making). make m .view .control .levels) (makingOf 5 0 oneLevel 5 ∷ makingOf 1 0 oneLevel 5 ∷ making 5 5 ∷ [])
+    map (λ (m : Making). make m .view .control .levels) (making 5 5 ∷ making 1 5 ∷ makingOf 5 0 noLevels 5 ∷ [])
     ≡ oneLevel ∷ noLevels ∷ noLevels ∷ []
 unfolding of-runs
 lists-in-the-state = refl
@@ -213,10 +227,10 @@ lists-in-the-state = refl
 -- "1 asks for the old way, 0 for the new, any other number is refused with 1" (W-205), in each profile
 ways :
     map
-    (λ (profile : ℕ). map (λ (n : ℕ). make (makingOf profile n noLevels 5) .answer)
+    (λ (profile : ℕ). map (λ (n : ℕ). make (makingOf profile n oneLevel 5) .answer)
     (0 ∷ 1 ∷ 2 ∷ 4294967295 ∷ []))
-    (1 ∷ 2 ∷ 3 ∷ 4 ∷ [])
-    ≡ map (λ (profile : ℕ). Ready ∷ Ready ∷ Refused 1 ∷ Refused 1 ∷ []) (1 ∷ 2 ∷ 3 ∷ 4 ∷ [])
+    profiles
+    ≡ replicate 5 (Ready ∷ Ready ∷ Refused 1 ∷ Refused 1 ∷ [])
 unfolding of-runs
 ways = refl
 
@@ -289,15 +303,16 @@ priorities : eachOf (made 1) (map (λ (n : ℕ). offering 0 7 n 1 1) (0 ∷ 3 �
 unfolding eachOf made
 priorities = refl
 
--- 6 "on-time not allowed by the profile": "1 to 1,000", "1 to 500", "1 to 4,000", and "on-time 1 to 4,000" in profile 4 (W-209)
+-- 6 "on-time not allowed by the profile": "1 to 1,000", "1 to 500", "1 to 4,000", "on-time 1 to 4,000" in profile 4 (W-209) and
+-- "On-time is 1 to 1,000" in profile 5 (W-213)
 ontimesOf : (profile most : ℕ) → List Answer
 unfolding eachOf made
 ontimesOf profile most =
     eachOf (made profile) (map (λ (n : ℕ). offering 0 7 0 n 1) (0 ∷ 1 ∷ most ∷ (most + 1) ∷ []))
 
 ontimes :
-    ontimesOf 1 1000 ∷ ontimesOf 2 500 ∷ ontimesOf 3 4000 ∷ ontimesOf 4 4000 ∷ []
-    ≡ map (λ (n : ℕ). Refused 6 ∷ Taken ∷ Taken ∷ Refused 6 ∷ []) (1 ∷ 2 ∷ 3 ∷ 4 ∷ [])
+    map (λ (n : ℕ). ontimesOf n (byProfile n 1000 500 4000 4000 1000)) profiles
+    ≡ replicate 5 (Refused 6 ∷ Taken ∷ Taken ∷ Refused 6 ∷ [])
 unfolding ontimesOf
 ontimes = refl
 

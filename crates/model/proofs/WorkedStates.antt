@@ -3,8 +3,9 @@
 use Prim.Native.Nat.{ℕ, zero, suc}
 use mathlib.Core.Path.{_≡_, refl}
 use mathlib.Core.Bool.{Bool, true, false}
-use mathlib.Core.List.{List, [], _∷_, map}
+use mathlib.Core.List.{List, [], _∷_, _++_, map}
 use lib.ListN.{length}
+use Rattle.rules.specs.Profiles.{profiles}
 use Rattle.control.specs.Control.{Control}
 use Rattle.machine.specs.Levels.{noLevels}
 use Rattle.model.specs.declared.Packet.{Packet}
@@ -26,15 +27,14 @@ abbrev freshState : (profile : ℕ) → View
 freshState n = state (clockAt 0 4294967295) (steered n 0 600000 0 0 0) (lastAt 0 0 0) (counted 0 0 0) (queues [] [] [] [])
 
 fresh-states :
-    map (λ (n : ℕ). make (making n 4294967295)) (1 ∷ 2 ∷ 3 ∷ 4 ∷ [])
-    ≡ map (λ (n : ℕ). result (freshState n) Ready) (1 ∷ 2 ∷ 3 ∷ 4 ∷ [])
+    map (λ (n : ℕ). make (making n 4294967295)) profiles ≡ map (λ (n : ℕ). result (freshState n) Ready) profiles
 unfolding of-runs
 fresh-states = refl
 
 -- "a yes-or-no fixed at making and held in the state" (W-205)
 fresh-in-the-old-way :
-    map (λ (n : ℕ). make (makingOld n 4294967295)) (1 ∷ 2 ∷ 3 ∷ 4 ∷ [])
-    ≡ map (λ (n : ℕ). result (withWay 1 (freshState n)) Ready) (1 ∷ 2 ∷ 3 ∷ 4 ∷ [])
+    map (λ (n : ℕ). make (makingOld n 4294967295)) profiles
+    ≡ map (λ (n : ℕ). result (withWay 1 (freshState n)) Ready) profiles
 unfolding of-runs
 fresh-in-the-old-way = refl
 
@@ -53,7 +53,7 @@ allZero =
     }
 
 not-live :
-    map make (making 0 5 ∷ making 6 5 ∷ makingOld 0 5 ∷ makingOf 1 2 noLevels 5 ∷ making 5 5 ∷ [])
+    map make (making 0 5 ∷ making 6 5 ∷ makingOld 0 5 ∷ makingOf 1 2 noLevels 5 ∷ makingOf 5 0 noLevels 5 ∷ [])
     ≡ map (λ (n : ℕ). result allZero (Refused n)) (1 ∷ 1 ∷ 1 ∷ 1 ∷ 15 ∷ [])
 unfolding of-runs
 not-live = refl
@@ -118,8 +118,10 @@ sound-way : map (λ (n : ℕ). isSound (withWay n good)) (0 ∷ 1 ∷ 2 ∷ []) 
 unfolding isSound
 sound-way = refl
 
-sound-profile : map (λ (n : ℕ). ofControl (steered n 2 700000 5 0 0)) (0 ∷ 3 ∷ 4 ∷ 5 ∷ []) ≡ false ∷ true ∷ true ∷ false ∷ []
-unfolding ofControl
+sound-profile :
+    map (λ (n : ℕ). isSound (withControl crowded (steered n 1 700000 5 0 0))) (0 ∷ profiles ++ 6 ∷ [])
+    ≡ false ∷ true ∷ true ∷ true ∷ true ∷ true ∷ false ∷ []
+unfolding isSound
 sound-profile = refl
 
 sound-level : map (λ (n : ℕ). ofControl (steered 3 n 700000 5 400000 1)) (4 ∷ 5 ∷ []) ≡ true ∷ false ∷ []
@@ -150,17 +152,25 @@ none-kept : map (λ (n : ℕ). ofControl (steered 3 2 700000 5 n 0)) (0 ∷ 1 �
 unfolding ofControl
 none-kept = refl
 
+-- in each profile a sound one, and the same with a sample kept
 kept-only-in-3 :
-    map (λ (n : ℕ). isSound (withControl crowded (steered n 0 600000 0 0 1))) (1 ∷ 2 ∷ 3 ∷ 4 ∷ [])
-    ≡ false ∷ false ∷ true ∷ false ∷ []
+    map (λ (n : ℕ). map (λ (pairing : ℕ). isSound (withControl crowded (steered n 0 600000 0 0 pairing))) (0 ∷ 1 ∷ [])) profiles
+    ≡ (true ∷ false ∷ []) ∷ (true ∷ false ∷ []) ∷ (true ∷ true ∷ []) ∷ (true ∷ false ∷ []) ∷ (true ∷ false ∷ []) ∷ []
 unfolding isSound
 kept-only-in-3 = refl
 
 -- the latest load "is kept in profile 4 alone and zero elsewhere" (W-209)
 latest-only-in-4 :
-    map (λ (n : ℕ). map (λ (load : ℕ). ofControl (lately n 0 600000 0 load)) (0 ∷ 1 ∷ 1000000 ∷ 1000001 ∷ [])) (3 ∷ 4 ∷ [])
-    ≡ (true ∷ false ∷ false ∷ false ∷ []) ∷ (true ∷ true ∷ true ∷ false ∷ []) ∷ []
-unfolding ofControl
+    map
+    (λ (n : ℕ). map (λ (load : ℕ). isSound (withControl crowded (lately n 0 600000 0 load))) (0 ∷ 1 ∷ 1000000 ∷ 1000001 ∷ []))
+    profiles
+    ≡ (true ∷ false ∷ false ∷ false ∷ [])
+    ∷ (true ∷ false ∷ false ∷ false ∷ [])
+    ∷ (true ∷ false ∷ false ∷ false ∷ [])
+    ∷ (true ∷ true ∷ true ∷ false ∷ [])
+    ∷ (true ∷ false ∷ false ∷ false ∷ [])
+    ∷ []
+unfolding isSound
 latest-only-in-4 = refl
 
 -- "running time at most 10^15;"

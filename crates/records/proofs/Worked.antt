@@ -36,9 +36,9 @@ unfolding probesIn profileIn askedBy ofKind
 kinds = refl
 
 -- 5 is asked for as 0, every other profile as it is
-profiles : map profileIn (0 ∷ 1 ∷ 4 ∷ 5 ∷ 6 ∷ 255 ∷ []) ≡ 0 ∷ 1 ∷ 4 ∷ 0 ∷ 6 ∷ 255 ∷ []
+logged-profiles : map profileIn (0 ∷ 1 ∷ 4 ∷ 5 ∷ 6 ∷ 255 ∷ []) ≡ 0 ∷ 1 ∷ 4 ∷ 0 ∷ 6 ∷ 255 ∷ []
 unfolding profileIn
-profiles = refl
+logged-profiles = refl
 
 -- "a sample's lifetime field is the probe count, where 0 still means 1,000" (W-208), whatever it is worth
 probe-counts : map probesIn (0 ∷ 1 ∷ 1000 ∷ 12500 ∷ 20000 ∷ 4294967295 ∷ []) ≡ 1000 ∷ 1 ∷ 1000 ∷ 12500 ∷ 20000 ∷ 4294967295 ∷ []

@@ -1,16 +1,19 @@
 -- Worked examples of what documents 01 and 02 say of numbers. Each side computes to the other, so a definition that reads a
 -- sentence otherwise fails here.
-use Prim.Native.Nat.{ℕ, _+_, _-_, _^_}
+use Prim.Native.Nat.{ℕ, _+_, _*_, _-_, _^_}
 use mathlib.Core.Path.{_≡_, refl}
-use mathlib.Core.Bool.{true, false}
+use mathlib.Core.Bool.{Bool, true, false, cond}
 use mathlib.Core.List.{List, [], _∷_, _++_, map}
 use mathlib.Core.Logic.{inl, inr}
+use native.Mathlib.Omega.{arith}
+use lib.Dec.{leb, eqb}
+use borrow.Author.Tests.{eqb-false}
 use lib.IntN.{ℤ, pos, negℤ}
 use lib.ListN.{length, getD}
 use lib.ListN.{replicate}
 use Rattle.rules.specs.declared.Sample.the-variants.{Busy, Bad}
 use Rattle.rules.specs.Tests.{allOf}
-use Rattle.rules.specs.Profiles.{profile3, profile4, fullLoad, topLevel, within, isProfile, isReactive, isUnlisted}
+use Rattle.rules.specs.Profiles.{profile3, profile4, fullLoad, topLevel, within, isProfile, profiles, isReactive, isUnlisted}
 use Rattle.rules.specs.Profiles.{byProfile, reactiveOf, limitsOf, mostOntime, ontimeAllowed, dutyAllowed}
 use Rattle.rules.specs.Profiles.{lifetimeAllowed, lastPriority, room, mostOffers}
 use Rattle.rules.specs.Clock.{stamps, stepOf, goesBack, endOfTime, passesEnd}
@@ -23,32 +26,47 @@ use Rattle.rules.specs.Wait.{ceilDiv, wholeDuty, adaptiveWait, startOf}
 use Rattle.rules.specs.Harmonised.{perMille, factorOf, harmonisedWait}
 use Rattle.rules.specs.Table.{values, factorTable}
 use Rattle.rules.specs.Readings.{readings}
+use Rattle.rules.proofs.Cases.{split, within-true}
 use Rattle.rules.proofs.Readings.{readings-hold}
 
 -- "a profile outside 1 to 5" (W-213); "reactive" are 1 and 2; 5 comes with a list
 
-profiles : map isProfile (0 ∷ 1 ∷ 2 ∷ 3 ∷ 4 ∷ 5 ∷ 6 ∷ []) ≡ false ∷ true ∷ true ∷ true ∷ true ∷ true ∷ false ∷ []
+profile-numbers : map isProfile (0 ∷ profiles) ++ isProfile 6 ∷ [] ≡ false ∷ true ∷ true ∷ true ∷ true ∷ true ∷ false ∷ []
 unfolding within
-profiles = refl
+profile-numbers = refl
 
-unlisted-profiles : map isUnlisted (0 ∷ 1 ∷ 2 ∷ 3 ∷ 4 ∷ 5 ∷ []) ≡ false ∷ true ∷ true ∷ true ∷ true ∷ false ∷ []
+-- the list of all profiles has each of them
+isIn : List ℕ → ℕ → Bool
+isIn [] p = false
+isIn (q ∷ qs) p = cond (eqb p q) true (isIn qs p)
+
+no-profile-forgotten : (p : ℕ) → isProfile p ≡ true → isIn profiles p ≡ true
+unfolding isIn
+no-profile-forgotten p e =
+    let h = within-true 1 5 p e in
+    split (eqb p 1) (λ u. rw u refl) (λ a. split (eqb p 2) (λ u. rw (a, u) refl)
+    (λ b. split (eqb p 3) (λ u. rw (a, b, u) refl) (λ c. split (eqb p 4) (λ u. rw (a, b, c, u) refl)
+    (λ d. let is5 : p ≡ 5 = omega (arith, h .0, h .1, eqb-false p 1 a, eqb-false p 2 b, eqb-false p 3 c, eqb-false p 4 d) in
+    rw is5 refl))))
+
+unlisted-profiles : map isUnlisted (0 ∷ profiles) ≡ false ∷ true ∷ true ∷ true ∷ true ∷ false ∷ []
 unfolding within
 unlisted-profiles = refl
 
-reactive-profiles : map isReactive (0 ∷ 1 ∷ 2 ∷ 3 ∷ 4 ∷ []) ≡ false ∷ true ∷ true ∷ false ∷ false ∷ []
+reactive-profiles : map isReactive (0 ∷ profiles) ≡ false ∷ true ∷ true ∷ false ∷ false ∷ false ∷ []
 unfolding within
 reactive-profiles = refl
 
 -- a choice by a profile's number; a number that is no profile's is refused first, and goes with 5 here
 choice-by-profile :
-    map (λ (p : ℕ). byProfile {A = ℕ} p 10 20 30 40 50) (1 ∷ 2 ∷ 3 ∷ 4 ∷ 5 ∷ 0 ∷ 6 ∷ [])
+    map (λ (p : ℕ). byProfile {A = ℕ} p 10 20 30 40 50) (profiles ++ 0 ∷ 6 ∷ [])
     ≡ 10 ∷ 20 ∷ 30 ∷ 40 ∷ 50 ∷ 50 ∷ 50 ∷ []
 choice-by-profile = refl
 
 -- "On-time allowed (µs)": "1 to 1,000", "1 to 500", "1 to 4,000"; "on-time 1 to 4,000" in profile 4 (W-209),
 -- "On-time is 1 to 1,000" in profile 5 (W-213)
 
-longest-on-times : map mostOntime (1 ∷ 2 ∷ 3 ∷ 4 ∷ 5 ∷ 0 ∷ []) ≡ 1000 ∷ 500 ∷ 4000 ∷ 4000 ∷ 1000 ∷ 1000 ∷ []
+longest-on-times : map mostOntime (profiles ++ 0 ∷ []) ≡ 1000 ∷ 500 ∷ 4000 ∷ 4000 ∷ 1000 ∷ 1000 ∷ []
 unfolding mostOntime
 longest-on-times = refl
 
@@ -79,18 +97,18 @@ on-times-of-no-profile = refl
 -- the least and the longest wait of each profile
 
 least-waits :
-    map (λ (p : ℕ). limitsOf p .leastwait) (1 ∷ 2 ∷ 3 ∷ 4 ∷ 5 ∷ []) ≡ 100000 ∷ 50000 ∷ 25000 ∷ 25000 ∷ 40000 ∷ []
+    map (λ (p : ℕ). limitsOf p .leastwait) profiles ≡ 100000 ∷ 50000 ∷ 25000 ∷ 25000 ∷ 40000 ∷ []
 least-waits = refl
 
 longest-waits :
-    map (λ (p : ℕ). limitsOf p .mostwait) (1 ∷ 2 ∷ 3 ∷ 4 ∷ 5 ∷ [])
+    map (λ (p : ℕ). limitsOf p .mostwait) profiles
     ≡ 1000000 ∷ 1000000 ∷ 1000000 ∷ 1000000 ∷ 1000000 ∷ []
 longest-waits = refl
 
 -- "In profiles 1 and 2 the wait now runs from admission plus that packet's on-time. Profile 3 stays as it is" (W-202); in profile
 -- 4 "It runs from the end of transmission." (W-209), in profile 5 "Waits run from the end" (W-213)
 start-of-the-wait :
-    map (λ (p : ℕ). startOf p 400) (1 ∷ 2 ∷ 3 ∷ 4 ∷ 5 ∷ []) ++ startOf 1 1000 ∷ startOf 2 1 ∷ startOf 3 4000 ∷ startOf 4 4000 ∷ []
+    map (λ (p : ℕ). startOf p 400) profiles ++ startOf 1 1000 ∷ startOf 2 1 ∷ startOf 3 4000 ∷ startOf 4 4000 ∷ []
     ≡ 400 ∷ 400 ∷ 0 ∷ 400 ∷ 400 ∷ 1000 ∷ 1 ∷ 0 ∷ 4000 ∷ []
 unfolding startOf
 start-of-the-wait = refl
@@ -493,6 +511,18 @@ waits-by-the-factor :
     ∷ []
 unfolding perMille factorOf harmonisedWait
 waits-by-the-factor = refl
+
+-- "For the whole-number load, rounding never makes the wait shorter than the published formula" (W-209): for that load, and not
+-- for the share that was measured. Of 8,001 probes 7,937 busy are 992,000 parts per million and a bit. For a packet of 600 µs
+-- the formula gives 899,400 µs and less at 992,000, and 899,401.5 µs at 7,937 / 8,001
+formula-at-the-measured-share :
+    (loadOf 7937 8001 ≡ 992000)
+    × (harmonisedWait profile4 600 992000 ≡ 899400)
+    × (leb (600 * (3999 * 992000 - 2480000000)) (899400 * 992000) ≡ true)
+    × (leb (600 * (3999 * 7937 - 2480 * 8001)) (899400 * 7937) ≡ false)
+    × (leb (600 * (3999 * 7937 - 2480 * 8001)) (899402 * 7937) ≡ true)
+unfolding loadOf perMille factorOf harmonisedWait
+formula-at-the-measured-share = (refl, refl, refl, refl, refl)
 
 -- the lines marked P, read off the statement about them: these numbers, and what the paper reads
 lines-marked-P :
