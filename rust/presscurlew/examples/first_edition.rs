@@ -10,15 +10,15 @@ use presscurlew::{Answer, Gate, Level, Offer, Refusal, WhenFull};
 const BASE_WAIT: u32 = 60_000;
 const LEVELS: [Level; 3] = [
     Level {
-        above: 200_000,
+        threshold: 200_000,
         wait: 100_000,
     },
     Level {
-        above: 400_000,
+        threshold: 400_000,
         wait: 300_000,
     },
     Level {
-        above: 700_000,
+        threshold: 700_000,
         wait: 1_000_000,
     },
 ];

@@ -499,7 +499,7 @@ impl Gate {
     /// ```
     /// use presscurlew::{Gate, Level, Refusal, WhenFull};
     ///
-    /// let levels = [Level { above: 300_000, wait: 200_000 }, Level { above: 600_000, wait: 1_000_000 }];
+    /// let levels = [Level { threshold: 300_000, wait: 200_000 }, Level { threshold: 600_000, wait: 1_000_000 }];
     /// let mut gate = Gate::first_edition(60_000, &levels, WhenFull::DropOldest, 0)?;
     /// for _ in 0..9 {
     ///     gate.sample_count(1_000, 1_000, 0)?;

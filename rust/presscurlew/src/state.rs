@@ -65,7 +65,7 @@ pub struct Admission {
 #[derive(Clone, Copy, Debug, PartialEq, Eq, Hash)]
 pub struct Level {
     /// Its threshold, as a load: in parts per 1,000,000.
-    pub above: u32,
+    pub threshold: u32,
     /// Its wait in µs.
     pub wait: u32,
 }

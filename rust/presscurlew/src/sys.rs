@@ -175,13 +175,13 @@ impl Levels {
     /// use presscurlew::sys::{self, Levels};
     /// use presscurlew::{Level, State};
     ///
-    /// let list = Levels::of(60_000, &[Level { above: 500_000, wait: 400_000 }]);
+    /// let list = Levels::of(60_000, &[Level { threshold: 500_000, wait: 400_000 }]);
     /// assert_eq!((list.count, list.thresholds[0], list.waits[0]), (1, 500_000, 400_000));
     /// let mut state = State::default();
     /// assert_eq!(sys::make(&mut state, 5, sys::DROP_OLDEST, &list, 0).kind, sys::READY);
     /// assert_eq!(state.levels(), list);
     ///
-    /// let steps: Vec<Level> = (1..=9).map(|k| Level { above: 100_000 * k, wait: 100_000 }).collect();
+    /// let steps: Vec<Level> = (1..=9).map(|k| Level { threshold: 100_000 * k, wait: 100_000 }).collect();
     /// let longer = Levels::of(60_000, &steps);
     /// assert_eq!(sys::make(&mut state, 5, sys::DROP_OLDEST, &longer, 0).number, 15);
     /// ```
@@ -192,7 +192,7 @@ impl Levels {
             ..Levels::NONE
         };
         for (place, level) in listed.iter().take(MOST_LEVELS).enumerate() {
-            list.thresholds[place] = level.above;
+            list.thresholds[place] = level.threshold;
             list.waits[place] = level.wait;
         }
         list

@@ -145,7 +145,7 @@ fn profiles_have_the_header_s_numbers_and_names() {
 #[test]
 fn limits_are_the_header_s() {
     let limits = [
-        ("PRIORITIES", sys::State::default().queues.len()),
+        ("PRIORITIES", presscurlew::State::default().queues.len()),
         ("MOST_WAITING", sys::MOST_WAITING),
         ("MOST_PROBES", sys::MOST_PROBES as usize),
         ("MOST_WORDS", sys::MOST_WORDS),
@@ -167,7 +167,7 @@ fn profiles_by_name_are_those_that_make_takes() {
         let list = sys::Levels::of(
             40_000,
             &[Level {
-                above: 1,
+                threshold: 1,
                 wait: 40_000,
             }],
         );

@@ -146,7 +146,7 @@ fn list_of(profile: u32) -> sys::Levels {
     match profile {
         5 => sys::Levels::of(
             40_000,
-            &listed.map(|(above, wait)| presscurlew::Level { above, wait }),
+            &listed.map(|(threshold, wait)| presscurlew::Level { threshold, wait }),
         ),
         _ => sys::Levels::NONE,
     }

@@ -84,7 +84,7 @@ fn full(i: u32) -> [u32; 5] {
 fn start(profile: u32) -> Start {
     // Profile 5's; the others look at none.
     let level = presscurlew::Level {
-        above: 500_000,
+        threshold: 500_000,
         wait: 1_000_000,
     };
     let list = sys::Levels::of(100_000, &[level]);

@@ -370,7 +370,7 @@ fn a_bad_profile_or_way_comes_before_a_bad_list() {
 #[test]
 fn a_gate_is_made_of_1_to_8_levels() {
     let level = |k: u32| Level {
-        above: 10_000 * k,
+        threshold: 10_000 * k,
         wait: 40_000 + k,
     };
     for many in (0..=9).chain([50, 90]) {
@@ -386,7 +386,7 @@ fn a_gate_is_made_of_1_to_8_levels() {
         for (place, level) in listed.iter().enumerate() {
             assert_eq!(
                 (list.thresholds[place], list.waits[place]),
-                (level.above, level.wait)
+                (level.threshold, level.wait)
             );
         }
         let unused = many as usize..MOST_LEVELS;

@@ -55,8 +55,8 @@ pub fn gate_of(profile: u32, way: WhenFull, stamp: u32) -> Gate {
     let gate = match profile {
         5 => {
             let list = levels_of(profile);
-            let level = |(above, wait): &(u32, u32)| Level {
-                above: *above,
+            let level = |(threshold, wait): &(u32, u32)| Level {
+                threshold: *threshold,
                 wait: *wait,
             };
             let levels: Vec<Level> = list.listed().iter().map(level).collect();

@@ -32,7 +32,7 @@ Gate {
 #[test]
 fn a_gate_in_one_line() {
     let levels = [Level {
-        above: 300_000,
+        threshold: 300_000,
         wait: 200_000,
     }];
     let mut gate = Gate::first_edition(60_000, &levels, WhenFull::DropOldest, 0).unwrap();
