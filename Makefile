@@ -13,7 +13,8 @@ help:
 	@echo 'make boards  archives for ARM and RISC-V boards, tested under emulation (boards/run install has what it needs)'
 	@echo 'make lib       one archive for C, headers, what pkg-config and CMake read: target/package'
 	@echo 'make install   the same below PREFIX (/usr/local), in DESTDIR if that is set'
-	@echo 'make dist      the release as one file, in target/dist: all of that, the examples and the Rust package'
+	@echo 'make dist      the release, in target/dist: all of that for x86-64 and the boards, the examples and the Rust package;'
+	@echo '               packages for Debian; their check sums'
 	@echo 'make measure   what a call takes, written to docs/INTEGRATING.md'
 	@echo 'make doxygen   the pages of the headers, by Doxygen: target/doxygen/html'
 	@echo 'make picture   the picture of the demo, docs/jam.svg'
@@ -119,7 +120,10 @@ install: lib
 	@mkdir -p '$(PLACE)'
 	@tar -C target/package --mode=u+rwX,go+rX,go-w -cf - . | tar -C '$(PLACE)' --no-same-owner --no-overwrite-dir -xf -
 
+# The boards' archives are made and tested, if they were not; if what that needs is missing, the release is without them.
 dist: lib
+	@boards/run tested >/dev/null || ! boards/run missing || \
+	{ echo 'The archives of the boards are made and tested: some ten minutes.'; boards/run; }
 	@package/dist target/dist
 
 measure: lib
