@@ -116,9 +116,9 @@ extern "C" {
  * @{
  */
 /** The version. */
-#define PRESSCURLEW_VERSION "0.10.0"
+#define PRESSCURLEW_VERSION "0.11.0"
 /** The version as a number: a million for each major and a thousand for each minor number. */
-#define PRESSCURLEW_VERSION_NUMBER 10000u
+#define PRESSCURLEW_VERSION_NUMBER 11000u
 /** The number of the layout. */
 #define PRESSCURLEW_LAYOUT 2252050035u
 

@@ -3,7 +3,7 @@
 ghost use mathlib.Core.Path.{_≡_};
 ghost use Rattle.host.specs.Edition.{version, layout};
 
-pub const VERSION: u32 = 10000;
+pub const VERSION: u32 = 11000;
 
 pub const LAYOUT: u32 = 2252050035;
 

@@ -84,7 +84,7 @@ pub struct FloatAnswer {
 
 /// The version of this package as the archive's [`presscurlew_version`] has it: a million for each major and a thousand
 /// for each minor number.
-pub const VERSION_NUMBER: u32 = 10_000;
+pub const VERSION_NUMBER: u32 = 11_000;
 /// The number of the layout that this module declares. An archive whose [`presscurlew_layout`] is another one has
 /// other structs or other calls, and must not be called; every [`crate::Gate`] sees to it when it is made.
 pub const LAYOUT: u32 = 2_252_050_035;
