@@ -3,9 +3,11 @@ use mathlib.Core.Path.{sym, _∙_}
 use borrow.Author.Needs.{needs}
 use borrow.Author.Tests.{not-true, not-false}
 use Rattle.gate.specs.declared.State.{State}
-use Rattle.gate.specs.Layout.{stateWith}
+use Rattle.gate.specs.Layout.{stateWith, soundState, callOn}
 use Rattle.checks.specs.Checks.{callOf}
-use Rattle.gate.proofs.Entry.{unsound, turned}
+use Rattle.checks.proofs.Entry.{unsound}
+use Rattle.gate.proofs.Views.{engine}
+use Rattle.gate.proofs.Entry.{turned}
 use Rattle.gate.proofs.Head.step.Statement.{statement}
 use Rattle.gate.proofs.Head.step.Tie as tie
 
@@ -33,11 +35,12 @@ same-length-4 : tie.Need-same-length-4
 same-length-4 c = search needs
 
 returns : tie.Need-returns
+unfolding callOn soundState
 returns c =
     let at-is-sound = c .before .before in
     let s = at-is-sound .before .before .before .before .before .before .before .before .before .before .before in
     turned _ _ _ _ _ _ _ _ _ _ (c .answered .ensures)
-    (unsound (given s) (callOf (s .args .request) (s .args .stamp)) (sym (at-is-sound .is-sound .ensures .0) ∙ not-true _ (c
+    (unsound engine (given s) (callOf (s .args .request) (s .args .stamp)) (sym (at-is-sound .is-sound .ensures .0) ∙ not-true _ (c
     .before .if1 .taken)))
 
 step-sound-requires : tie.Need-step-sound-requires
