@@ -40,17 +40,11 @@ cast-is-tuning-sound c =
       levels-fit (s .args .self) _ (s .good .0),
     )
 
-is-tuning-sound-requires : tie.Need-is-tuning-sound-requires
-is-tuning-sound-requires c κs = search needs
-
 returns-3 : tie.Need-returns-3
 unfolding soundState
 returns-3 c =
     let s = c .before .before .before .before .before .before .before .before .before .before .before .before .before .before in
     no _ _ (unsound-control engine (given s) (not-tuned (given s) (sym (c .before .is-tuning-sound .ensures) ∙ not-true _ (c .if3 .taken))))
-
-is-listing-sound-requires : tie.Need-is-listing-sound-requires
-is-listing-sound-requires c κs = search needs
 
 returns-4 : tie.Need-returns-4
 unfolding soundState
@@ -59,18 +53,12 @@ returns-4 c =
     .before .before in
     no _ _ (unsound-control engine (given s) (not-listing (given s) (sym (c .before .is-listing-sound .ensures) ∙ not-true _ (c .if4 .taken))))
 
-passes-end-requires : tie.Need-passes-end-requires
-passes-end-requires c κs = search needs
-
 returns-5 : tie.Need-returns-5
 unfolding soundState
 returns-5 c =
     let s = c .before .before .before .before .before .before .before .before .before .before .before .before .before .before
     .before .before .before .before in
     no _ _ (unsound-time engine (given s) (sym (c .before .passes-end .ensures) ∙ c .if5 .taken))
-
-is-last-sound-requires : tie.Need-is-last-sound-requires
-is-last-sound-requires c κs = search needs
 
 returns-6 : tie.Need-returns-6
 unfolding soundState
@@ -97,9 +85,6 @@ count-requires c κs =
     let s = at-are-queues-sound .before .before .before .before .before .before .before .before .before .before .before .before
     .before .before .before .before .before .before .before .before .before .before in
     queues-held (given s) (s .pre) (sym (at-are-queues-sound .are-queues-sound .ensures) ∙ not-false _ (c .before .if7 .left))
-
-are-counts-sound-requires : tie.Need-are-counts-sound-requires
-are-counts-sound-requires c κs = search needs
 
 returns-8 : tie.Need-returns-8
 unfolding soundState
@@ -150,6 +135,6 @@ returns-9 c =
 pub is-sound-spec : {M : Type 1} → statement M
 is-sound-spec =
     tie.close
-    (tie.spec returns returns-2 cast-is-tuning-sound is-tuning-sound-requires returns-3 is-listing-sound-requires returns-4
-    passes-end-requires returns-5 is-last-sound-requires returns-6 are-queues-sound-requires returns-7 count-requires
-    are-counts-sound-requires returns-8 cast-is-sound is-sound-requires returns-9)
+    (tie.spec returns returns-2 cast-is-tuning-sound (λ c κs. search needs) returns-3 (λ c κs. search needs) returns-4
+    (λ c κs. search needs) returns-5 (λ c κs. search needs) returns-6 are-queues-sound-requires returns-7 count-requires
+    (λ c κs. search needs) returns-8 cast-is-sound is-sound-requires returns-9)

@@ -27,16 +27,10 @@ room s =
 own : (c : tie.Else1) → firstOf (numberChecks (start c .args .self .profile) (start c .args .o)) ≡ 0
 own c = sym (c .before .offer-refusal .ensures) ∙ c .if1 .left
 
-offer-refusal-requires : tie.Need-offer-refusal-requires
-offer-refusal-requires c κs = search needs
-
 returns : tie.Need-returns
 returns c =
     let s = c .before .before .before .before in
     sym (own-first (s .args .self .profile) (s .args .o) (room s) _ (sym (c .before .offer-refusal .ensures)) (c .if1 .taken))
-
-cast-is-full : tie.Need-cast-is-full
-cast-is-full c = search needs
 
 is-full-requires : tie.Need-is-full-requires
 is-full-requires c κs =
@@ -70,4 +64,4 @@ returns-4 c =
 
 pub offer-refusal-spec : {M : Type 1} → statement M
 offer-refusal-spec =
-    tie.close (tie.spec offer-refusal-requires returns cast-is-full is-full-requires returns-2 returns-3 returns-4)
+    tie.close (tie.spec (λ c κs. search needs) returns (λ c. search needs) is-full-requires returns-2 returns-3 returns-4)
