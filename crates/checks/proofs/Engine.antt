@@ -21,11 +21,12 @@ pub record Engine (h : Holding) : Type 1 where
   pub Outcome : Type 0
   pub viewOf : State → Status h
   pub stateOf : Status h → State
-  -- "everything unused is zero"
-  pub tidied : State → Bool
+  -- "everything unused is zero": in what waits, and in the ledger
+  pub packed : State → Bool
+  pub kept : State → Bool
   pub outcome : State → Answer → Outcome
   -- what is sound, laid out, is tidy and reads back
-  pub tidy-state : (v : Status h) → sound v ≡ true → tidied (stateOf v) ≡ true
+  pub tidy-state : (v : Status h) → sound v ≡ true → packed (stateOf v) && kept (stateOf v) ≡ true
   pub view-state : (v : Status h) → sound v ≡ true → viewOf (stateOf v) ≡ v
   -- it stays sound from call to call, and once the expired are gone
   pub keeps : CallsKeepSound h
@@ -36,7 +37,7 @@ pub record Engine (h : Holding) : Type 1 where
       → ontimeAllowed (v .control .profile) (p .ontime) ≡ true
 
 abbrev pub soundIn : {h : Holding} (e : Engine h) → e .State → Bool
-soundIn e s = e .tidied s && sound (e .viewOf s)
+soundIn e s = (e .packed s && e .kept s) && sound (e .viewOf s)
 
 abbrev pub laid : {h : Holding} (e : Engine h) → Result h → e .Outcome
 laid e o = e .outcome (e .stateOf (o .view)) (o .answer)
@@ -49,7 +50,7 @@ callIn e s c = cond (soundIn e s) (outcomeIn e s (call (e .viewOf s) c)) (e .out
 
 module _ {h : Holding} (e : Engine h) where
   pub sound-view : (s : e .State) → soundIn e s ≡ true → sound (e .viewOf s) ≡ true
-  sound-view s f = both (e .tidied s) (sound (e .viewOf s)) f .1
+  sound-view s f = both (e .packed s && e .kept s) (sound (e .viewOf s)) f .1
 
   pub state-sound : (v : Status h) → sound v ≡ true → soundIn e (e .stateOf v) ≡ true
   state-sound v f = rw (e .tidy-state v f, e .view-state v f) f

@@ -11,6 +11,7 @@ use Rattle.rules.specs.Samples.{busyOf, sampleOf, goodProbes, badCount}
 use Rattle.rules.specs.Profiles.{within}
 use Rattle.rules.specs.Refusals.{firstOf}
 use Rattle.rules.proofs.Cases.{split}
+use Rattle.rules.proofs.Refusals.{of-none}
 use Rattle.model.specs.declared.Clock.{Clock}
 use Rattle.model.specs.declared.Answer.the-variants.{Refused}
 use Rattle.model.specs.Packets.{Holding}
@@ -18,7 +19,7 @@ use Rattle.model.specs.Calls.{Call, words, count, poll, stampOf, isRefused}
 use Rattle.model.specs.State.{Status, sound}
 use Rattle.model.specs.Effects.{Result, stepped, refreshed, effect}
 use Rattle.model.specs.Gate.{ownChecks, checks, unlessRefused, call}
-use Rattle.model.proofs.Refusals.{effect-accepts}
+use Rattle.model.proofs.Refusals.{checks-numbered, effect-accepts}
 use Rattle.model.proofs.Sampling.{read-good, read-bad, good-alike, bad-alike}
 use Rattle.checks.specs.Checks.{clockNumber, Entered}
 use Rattle.checks.proofs.Judged.{in-time}
@@ -57,7 +58,8 @@ module _ {h : Holding} (e : Engine h) (s : e .State) where
   unfolding call
   called c n f g = rw (f, g)
 
-  by-number : (c : Call) (n : ℕ) → soundIn e s ≡ true → firstOf (checks view c) ≡ n → (n ≡ 0 → ⊥)
+  -- refused by the first check that holds
+  pub by-number : (c : Call) (n : ℕ) → soundIn e s ≡ true → firstOf (checks view c) ≡ n → (n ≡ 0 → ⊥)
       → e .outcome s (Refused n) ≡ callIn e s c
   by-number c n f g k = sym (called c n f g ∙ rw (ne-eqb n 0 k))
 
@@ -94,6 +96,18 @@ module _ {h : Holding} (e : Engine h) (s : e .State) where
       pub called-effect : call view c ≡ effect view c
       unfolding call
       called-effect = ap (λ (k : ℕ). unlessRefused k view (effect view c)) (own-number ∙ f)
+
+  -- where no check holds, none of every call does and none of its own
+  abbrev pub Passed : Call → Type 0
+  Passed c = Entered (soundIn e s) (view .clock) (stampOf c) × (firstOf (ownChecks view c) ≡ 0)
+
+  pub passed : (c : Call) → soundIn e s ≡ true → firstOf (checks view c) ≡ 0 → Passed c
+  unfolding checks
+  passed c f z =
+      let none = of-none (checks view c) (checks-numbered view c) z in
+      let n : Entered (soundIn e s) (view .clock) (stampOf c) =
+      record { is-sound = f; forward = none .1 .0; not-past = none .1 .1 .0 } in
+      (n, sym (own-number c n) ∙ z)
 
   -- a sample by words is one by its busy count
   on-calls : (c d : Call) → call view c ≡ call view d → callIn e s c ≡ callIn e s d

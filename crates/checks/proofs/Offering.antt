@@ -3,11 +3,12 @@
 use Prim.Native.Nat.{ℕ, _≤_}
 use mathlib.Core.Path.{_≡_, ap, ap₂, sym, _∙_}
 use mathlib.Core.Bool.{true, false}
+use mathlib.Core.List.{List, _++_}
 use native.Mathlib.Omega.{arith}
 use borrow.Author.Tests.{ne-eqb}
 use Rattle.rules.specs.Profiles.{lastPriority}
 use Rattle.rules.specs.Samples.{badCount}
-use Rattle.rules.specs.Refusals.{firstOf}
+use Rattle.rules.specs.Refusals.{Check, firstOf}
 use Rattle.rules.proofs.Refusals.{Numbered, first-append, of-none}
 use Rattle.rules.proofs.Tests.{tested}
 use Rattle.model.specs.declared.Packet.{Packet}
@@ -17,26 +18,21 @@ use Rattle.model.specs.Packets.{Holding, packetOf}
 use Rattle.model.specs.Calls.{count, offer}
 use Rattle.model.specs.State.{Status}
 use Rattle.model.specs.Effects.{sampledBy, refreshed, roomMade, joined, effect}
-use Rattle.model.specs.Gate.{numberChecks, roomChecks, ownChecks}
+use Rattle.model.specs.Gate.{numberChecks, ownChecks}
 use Rattle.checks.specs.Checks.{Entered}
 use Rattle.checks.proofs.Engine.{Engine, soundIn, callIn, says}
 use Rattle.checks.proofs.Entry.{refreshed-sound, accepted}
 
--- an offer's own numbers, then its room
+-- an offer's own numbers, then the rest of its checks
 numbers-numbered : (profile : ℕ) (o : Offer) → Numbered (numberChecks profile o)
 numbers-numbered profile o = omega arith
 
-module _ {h : Holding} (v : Status h) (stamp : ℕ) (o : Offer) where
-  pub offer-own : (n : ℕ) → firstOf (numberChecks (v .control .profile) o) ≡ n → (n ≡ 0 → ⊥)
-      → firstOf (ownChecks v (offer stamp o)) ≡ n
-  offer-own n e k =
-      first-append (numberChecks (v .control .profile) o) _ (numbers-numbered (v .control .profile) o) ∙ rw (e, ne-eqb n 0 k)
+module _ (profile : ℕ) (o : Offer) (rest : List Check) where
+  pub own-first : (n : ℕ) → firstOf (numberChecks profile o) ≡ n → (n ≡ 0 → ⊥) → firstOf (numberChecks profile o ++ rest) ≡ n
+  own-first n e k = first-append (numberChecks profile o) rest (numbers-numbered profile o) ∙ rw (e, ne-eqb n 0 k)
 
-  pub offer-room : firstOf (numberChecks (v .control .profile) o) ≡ 0
-      → firstOf (ownChecks v (offer stamp o))
-      ≡ firstOf (roomChecks (v .oldway) (h .ofPriority (o .priority) (refreshed v stamp .waiting)) (v .counts .accepted))
-  offer-room e =
-      first-append (numberChecks (v .control .profile) o) _ (numbers-numbered (v .control .profile) o) ∙ rw e
+  pub then-rest : firstOf (numberChecks profile o) ≡ 0 → firstOf (numberChecks profile o ++ rest) ≡ firstOf rest
+  then-rest e = first-append (numberChecks profile o) rest (numbers-numbered profile o) ∙ rw e
 
 pub offer-priority : (profile : ℕ) (o : Offer) → firstOf (numberChecks profile o) ≡ 0 → o .priority ≤ lastPriority
 offer-priority profile o e =

@@ -1,10 +1,13 @@
 -- A head's numbers written one by one over a row of as many: what is read back is the head.
-use Prim.Native.Nat.{ℕ, zero, suc, _≤_}
+use Prim.Native.Nat.{ℕ, zero, suc, _≤_, _<_}
 use mathlib.Core.Path.{_≡_, refl, ap, sym, _∙_}
+use mathlib.Core.Bool.{true}
 use mathlib.Core.List.{List, [], _∷_}
 use native.Mathlib.Omega.{arith}
-use lib.ListN.{length, getD}
-use lib.Seq.{sets, sets-eq}
+use lib.Dec.{ltb}
+use lib.ListN.{length, take, getD}
+use lib.Seq.{sets, sets-eq, lt-length-sets}
+use borrow.Author.Tests.{ltb-true}
 use Rattle.gate.specs.declared.Head.{Head}
 use Rattle.gate.specs.Kept.{wideNumbers, narrowNumbers, headIn}
 
@@ -38,6 +41,10 @@ narrows h =
     ∷ h .levels
     ∷ h .calm
     ∷ []
+
+-- a row with the first of them written has a place for the next
+pub in-row : (row vs : List ℕ) (n k : ℕ) → length row ≡ n → ltb k n ≡ true → k < length (sets row 0 (take k vs))
+in-row row vs n k e f = lt-length-sets row 0 (take k vs) (omega (arith, e, ltb-true k n f))
 
 pub kept :
     (wide narrow : List ℕ) (h : Head) → length wide ≡ wideNumbers → length narrow ≡ narrowNumbers

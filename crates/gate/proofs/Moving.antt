@@ -21,6 +21,7 @@ use Rattle.model.specs.Effects.{stepped, moreExpired, refreshed}
 use Rattle.ledger.specs.declared.Ledger.{Ledger}
 use Rattle.ledger.specs.Layout as ledger
 use Rattle.ledger.proofs.Settling.{list-length}
+use Rattle.checks.proofs.Engine.{says}
 use Rattle.waiting.specs.Layout.{Rows, rows, Held, queues, alive, countIn, waitingIn, rowsFor}
 use Rattle.waiting.specs.Layout as fifo
 use Rattle.waiting.proofs.Meaning.{rows-alive, how-many, how-many-alive}
@@ -29,7 +30,7 @@ use Rattle.gate.specs.declared.State.{State}
 use Rattle.gate.specs.Layout.{stateWith, stateFrom, rowsIn, viewOf, stateOf}
 use Rattle.gate.specs.Steps.{Settled, headWith, ledgerFor, admissionsIn, stillThere, Advanceable, Advanced}
 use Rattle.gate.specs.Steps.{Clearable, Cleared}
-use Rattle.gate.proofs.Views.{known, says, given-of}
+use Rattle.gate.proofs.Views.{engine, known, given-of}
 
 pub advanced-by : (h : Head) (stamp : ℕ) (air air′ : List ℕ) (c : Clock) (n : ℕ) → c ≡ stepped (h .clock) stamp
     → ledger.ledgerOf n air′ ≡ ledger.packed (h .last .at) (young (c .time) (admissionsIn h air))
@@ -86,11 +87,17 @@ module _ (s : State) (t : Settled s) where
   pub advanceable : Advanceable (s .head) (s .air)
   advanceable =
       let k = known s t in
-      record { forty = k .noting .forty; time = k .time; tight = k .ledger-tight; ordered = k .ordered }
+      record {
+        forty = k .noting .forty;
+        time = k .groups .time;
+        tight = k .ledger-tight;
+        ordered =
+            record { profile = s .head .profile; now = s .head .clock .time; last = s .head .last; rules = k .groups .rules };
+      }
 
   module _ (stamp : ℕ) (h : Head) (air : List ℕ) (a : Advanced (s .head) stamp (s .air) h air) where
     pub still-steerable : Steerable (h .profile) (h .tuning)
-    still-steerable = subst⁻¹ (λ (x : Head). Steerable (x .profile) (x .tuning)) (a .head) (known s t .control)
+    still-steerable = subst⁻¹ (λ (x : Head). Steerable (x .profile) (x .tuning)) (a .head) (known s t .groups .control)
 
     pub clearable : Clearable h (rowsIn s)
     clearable =
@@ -98,7 +105,7 @@ module _ (s : State) (t : Settled s) where
         record {
           held = k .held;
           expired =
-              subst⁻¹ (λ (x : Head). x .counts .expired ≤ mostOffers) (a .head) (omega (arith, k .sum, k .most));
+              subst⁻¹ (λ (x : Head). x .counts .expired ≤ mostOffers) (a .head) (omega (arith, k .groups .sum, k .groups .most));
         }
 
 -- both, one after the other
@@ -126,7 +133,7 @@ module _ (s : State) (stamp : ℕ) (h₁ h₂ : Head) (air words came : List ℕ
     cleared-settled = given-of cleared (refreshed (viewOf s) stamp) refreshes e
 
     pub cleared-says : viewOf cleared ≡ refreshed (viewOf s) stamp
-    cleared-says = says cleared (refreshed (viewOf s) stamp) refreshes e
+    cleared-says = says engine cleared (refreshed (viewOf s) stamp) refreshes e
 
     pub none-expired : stillThere h₂ (rows words came) ≡ waitingIn (rows words came)
     none-expired =

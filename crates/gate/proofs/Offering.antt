@@ -1,17 +1,14 @@
--- An offer: its own numbers, its room, and the packet at the back of its queue, where the front one left or did not.
+-- An offer: its room, and the packet at the back of its queue, where the front one left or did not.
 use Prim.Native.Nat.{ℕ, _+_, _≤_, _<_}
 use mathlib.Core.Path.{_≡_, refl, ap, ap₂, sym, _∙_}
-use mathlib.Core.Bool.{Bool, true, false, cond, _&&_, and-false}
+use mathlib.Core.Bool.{Bool, true, false, cond}
 use mathlib.Core.List.{List, [], _∷_, _++_}
 use native.Mathlib.Omega.{arith}
-use lib.Dec.{leb, eqb}
+use lib.Dec.{leb}
 use lib.ListN.{length, drop}
-use borrow.Author.Tests.{ne-eqb, le-leb, lt-leb}
+use borrow.Author.Tests.{le-leb, lt-leb}
 use Rattle.rules.proofs.Cases.{split}
-use Rattle.rules.specs.Profiles.{room, mostOffers}
-use Rattle.rules.specs.Refusals.{Check, firstOf}
-use Rattle.rules.proofs.Refusals.{Numbered, first-append, of-none}
-use Rattle.rules.proofs.Tests.{tested}
+use Rattle.rules.specs.Profiles.{room}
 use Rattle.machine.specs.Levels.{levelsOf}
 use Rattle.machine.specs.Loads.{loadsOf}
 use Rattle.model.specs.declared.Counts.{Counts}
@@ -21,58 +18,26 @@ use Rattle.model.specs.declared.Answer.the-variants.{Taken}
 use Rattle.model.specs.Packets.{packetOf, atBack}
 use Rattle.model.specs.Fours.{Four, column, change}
 use Rattle.model.specs.Calls.{offer}
-use Rattle.model.specs.State.{View, sound}
-use Rattle.model.specs.Effects.{refreshed, displaced, roomMade, joined, effect}
-use Rattle.model.specs.Gate.{numberChecks, roomChecks}
+use Rattle.model.specs.Effects.{displaced, joined}
+use Rattle.checks.proofs.Entry.{Passed, refreshed-sound}
+use Rattle.checks.proofs.Offering as offering
 use Rattle.waiting.specs.declared.Cell.{Cell}
 use Rattle.waiting.specs.Layout.{Rows, rows, Held, queues, queueOf, laid, changed, alive, packetIn, waitingIn, rowsFor}
 use Rattle.waiting.proofs.Wholes.{queue-short}
 use Rattle.waiting.proofs.Joining.{column-length, column-live, rows-pushed, popped-held, popped-waiting, popped-length}
 use Rattle.gate.specs.declared.Head.{Head}
 use Rattle.gate.specs.declared.State.{State}
-use Rattle.gate.specs.Layout.{stateWith, stateFrom, rowsIn, ledgerIn, viewOf, stateOf, outcome, callOn}
-use Rattle.gate.specs.Steps.{liveOf, fullInOldWay, offerChecks, Settled, headWith, ledgerFor, hasFive, withRoom}
+use Rattle.gate.specs.Layout.{stateWith, stateFrom, rowsIn, ledgerIn, viewOf, stateOf, soundState, outcome, callOn}
+use Rattle.gate.specs.Steps.{liveOf, Settled, headWith, ledgerFor, hasFive}
 use Rattle.gate.specs.Steps.{Advanced, Cleared, Freed, Joinable, countsJoined, Joined}
-use Rattle.gate.proofs.Views.{known}
-use Rattle.gate.proofs.Entry.{Entered, good-priority, refreshed-entered, accepted}
-use Rattle.gate.proofs.Moving.{cleared-settled, cleared-says}
-
--- an offer's own numbers, then its room
-numbers-numbered : (profile : ℕ) (o : Offer) → Numbered (numberChecks profile o)
-numbers-numbered profile o = omega arith
-
-pub own-first : (profile : ℕ) (o : Offer) (rest : List Check) (n : ℕ) → n ≡ firstOf (numberChecks profile o) → (n ≡ 0 → ⊥)
-    → n ≡ firstOf (numberChecks profile o ++ rest)
-own-first profile o rest n e h =
-    sym (first-append (numberChecks profile o) rest (numbers-numbered profile o) ∙ rw (sym e, ne-eqb n 0 h))
-
-pub then-room : (profile : ℕ) (o : Offer) (rest : List Check) (n : ℕ) → n ≡ firstOf (numberChecks profile o) → n ≡ 0
-    → firstOf (numberChecks profile o ++ rest) ≡ firstOf rest
-then-room profile o rest n e z =
-    first-append (numberChecks profile o) rest (numbers-numbered profile o) ∙ rw (sym e ∙ z)
-
-pub own-priority : (profile : ℕ) (o : Offer) (n : ℕ) → n ≡ firstOf (numberChecks profile o) → n ≡ 0 → o .priority < 4
-own-priority profile o n e z =
-    let k = of-none (numberChecks profile o) (numbers-numbered profile o) (sym e ∙ z) in omega (tested, k .0)
+use Rattle.gate.proofs.Views.{engine, known}
+use Rattle.gate.proofs.Entry.{good-priority}
+use Rattle.gate.proofs.Moving.{refreshes, cleared-settled}
 
 -- the live packets of a priority
 pub live-count : (r : Rows) (k time n : ℕ) → k < 4 → n ≡ length (alive time (queueOf (queues r) k))
     → n ≡ liveOf (waitingIn r) k time
 live-count r k time n b f = f ∙ sym (column-live r k b time)
-
--- the two rows of the table, in their order
-module _ (oldway len accepted : ℕ) where
-  pub is-8 : (eqb oldway 1 && leb room len) ≡ true → 8 ≡ firstOf (roomChecks oldway len accepted)
-  unfolding firstOf
-  is-8 e = sym (rw e)
-
-  pub is-11 : (eqb oldway 1 && leb room len) ≡ false → mostOffers ≤ accepted → 11 ≡ firstOf (roomChecks oldway len accepted)
-  unfolding firstOf
-  is-11 e h = sym (rw (e, le-leb mostOffers accepted h))
-
-  pub is-0 : (eqb oldway 1 && leb room len) ≡ false → accepted < mostOffers → 0 ≡ firstOf (roomChecks oldway len accepted)
-  unfolding firstOf
-  is-0 e h = sym (rw (e, lt-leb mostOffers accepted h))
 
 -- room for one more: the front one left, or did not
 module _ (r : Rows) (k : ℕ) (b : k < 4) (h : Held r) (n : ℕ) (e : n ≡ length (queueOf (queues r) k)) where
@@ -154,16 +119,14 @@ joined-by s h words came o false t e f =
     (x .tuning) (x .profile) (x .oldway) (x .live)
 
 -- the offer, from what its steps leave
-module _ (given : State) (stamp : ℕ) (o : Offer) (e : Entered given (offer stamp o)) (h₁ h₂ : Head) (air words came : List ℕ)
-    (a : Advanced (given .head) stamp (given .air) h₁ air) (c : Cleared h₁ (rowsIn given) h₂ (rows words came)) where
+module _ (given : State) (stamp : ℕ) (o : Offer) (e : Passed engine given (offer stamp o)) (h₁ h₂ : Head)
+    (air words came : List ℕ) (a : Advanced (given .head) stamp (given .air) h₁ air)
+    (c : Cleared h₁ (rowsIn given) h₂ (rows words came)) where
   abbrev s : State
   s = stateWith h₂ words came air (given .loads) (given .above) (given .waits)
 
-  still-sound : sound (refreshed (viewOf given) stamp) ≡ true
-  still-sound = refreshed-entered given (offer stamp o) e
-
   settled : Settled s
-  settled = cleared-settled given stamp h₁ h₂ air words came a c still-sound
+  settled = cleared-settled given stamp h₁ h₂ air words came a c (refreshed-sound engine given stamp (e .0))
 
   pub joinable : Joinable h₂ (rows words came) o
   joinable =
@@ -171,17 +134,15 @@ module _ (given : State) (stamp : ℕ) (o : Offer) (e : Entered given (offer sta
       record {
         held = k .held;
         queue = good-priority given stamp o e;
-        accepted = k .most;
-        displaced = omega (arith, k .sum, k .most);
+        accepted = k .groups .most;
+        displaced = omega (arith, k .groups .sum, k .groups .most);
       }
 
   pub offer-taken : (h : Head) (words′ came′ : List ℕ) → Joined h₂ o (rows words came) h (rows words′ came′)
       → outcome (stateWith h words′ came′ air (given .loads) (given .above) (given .waits)) Taken
       ≡ callOn given (offer stamp o)
-  unfolding effect
+  unfolding callOn soundState
   offer-taken h words′ came′ j =
-      ap (λ (x : State). outcome x Taken)
-      (joined-by s h words′ came′ o (hasFive (o .priority) (rows words came)) settled (j .head) (j .rows)
-      ∙ ap (λ (x : View). stateOf (joined (roomMade x (o .priority)) (packetOf o (x .clock .time))))
-      (cleared-says given stamp h₁ h₂ air words came a c still-sound))
-      ∙ accepted given (offer stamp o) e
+      offering.offer-taken engine given stamp (e .0) o s _ (packetOf o (s .head .clock .time)) (e .1)
+      (refreshes given stamp h₁ h₂ air words came a c) refl
+      (joined-by s h words′ came′ o (hasFive (o .priority) (rows words came)) settled (j .head) (j .rows))

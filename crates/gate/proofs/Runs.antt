@@ -1,20 +1,13 @@
 -- A sound state's call is its view's call laid out, so a run of states reads as a run of views, and demand 3 carries over.
-use Prim.Native.Nat.{ℕ, _≤_, _<_}
+use Prim.Native.Nat.{ℕ}
 use mathlib.Core.Path.{_≡_, refl, ap, ap₂, sym, _∙_, subst, subst⁻¹}
 use mathlib.Core.Logic.{inl, ⊎-elim}
 use mathlib.Core.Bool.{Bool, true}
 use mathlib.Core.List.{List, [], _∷_}
-use native.Mathlib.Omega.{arith}
-use lib.ListN.{length, length-map}
-use Rattle.rules.specs.Profiles.{room}
 use Rattle.rules.specs.Refusals.{FirstHolds}
 use Rattle.rules.proofs.Cases.{split, on-cond, clash}
-use Rattle.packing.specs.Packing.{filled, padded}
-use Rattle.packing.proofs.Packing.{filled-padded}
-use Rattle.model.specs.declared.Packet.{Packet}
 use Rattle.model.specs.declared.Answer.{Answer}
 use Rattle.model.specs.declared.Answer.the-variants.{Ready, Refused}
-use Rattle.model.specs.Fours.{Four}
 use Rattle.model.specs.Queues.{inQueues}
 use Rattle.model.specs.Calls.{Call, poll, stampOf, Making, isRefused}
 use Rattle.model.specs.State.{View, sound}
@@ -22,84 +15,24 @@ use Rattle.model.specs.Effects.{Result}
 use Rattle.model.specs.Gate.{ownChecks, clockChecks, checks, make, call}
 use Rattle.model.specs.Journal.{Journal, opened, journalOf}
 use Rattle.model.specs.Claims.{Claims, viewAfter, events}
-use Rattle.model.proofs.Sound.{forty-are-enough}
-use Rattle.ledger.proofs.Meaning.{packed-tidy}
-use Rattle.model.proofs.Refusals.{refusals-change-nothing, refusals-are-exact}
-use Rattle.model.proofs.KeepsSound.{calls-keep-sound}
+use Rattle.model.proofs.Refusals.{refusals-are-exact}
 use Rattle.model.proofs.Demand3.{demand3}
-use Rattle.waiting.specs.declared.Cell.{Cell}
-use Rattle.waiting.specs.Layout.{Rows, noCell, packed, cellOf, isZero, tidyQueue, part, laid, queueOf, cellsOf, rowsFor, tidy}
-use Rattle.waiting.proofs.Places.{cells-rows}
-use Rattle.waiting.proofs.Wholes.{Short, part-laid}
-use Rattle.waiting.proofs.Meaning.{AllOwned}
+use Rattle.checks.proofs.Engine.{state-sound, on-sound-call}
 use Rattle.gate.specs.declared.State.{State}
 use Rattle.gate.specs.declared.Outcome.{Outcome}
 use Rattle.gate.specs.Layout.{viewOf, stateOf, soundState, outcomeOf, callOn, makeState}
 use Rattle.gate.specs.Runs.{RefusedUnchanged, UnsoundGetsNine, checksOn, RefusedExactly}
 use Rattle.gate.specs.Runs.{stateAfter, eventsOn, PollsRight, journalOn, Runs}
-use Rattle.gate.proofs.Views.{sound-writable, view-state, sound-parts}
-
--- rows laid out are tidy
-queue-tidy : (cs : List Cell) → length cs ≤ room → tidyQueue (packed cs) ≡ true
-unfolding packed
-queue-tidy cs h =
-    ap (padded isZero room (length cs)) (cells-rows (length cs) (filled room noCell cs))
-    ∙ filled-padded room noCell isZero refl cs h
-
-module _ (a b c d : List Cell) (h : Short (a ∷ b ∷ c ∷ d ∷ [])) where
-  part-tidy : (k : ℕ) → k < 4 → length (queueOf (a ∷ b ∷ c ∷ d ∷ []) k) ≤ room
-      → tidyQueue (part k (laid (a ∷ b ∷ c ∷ d ∷ []))) ≡ true
-  part-tidy k l n =
-      ap (λ (r : Rows). tidyQueue r) (part-laid (a ∷ b ∷ c ∷ d ∷ []) h k l) ∙ queue-tidy (queueOf (a ∷ b ∷ c ∷ d ∷ []) k) n
-
-  laid-tidy : tidy (laid (a ∷ b ∷ c ∷ d ∷ [])) ≡ true
-  unfolding tidy
-  laid-tidy =
-      rw (
-        part-tidy 0 (omega arith) (h .0),
-        part-tidy 1 (omega arith) (h .1 .0),
-        part-tidy 2 (omega arith) (h .1 .1 .0),
-        part-tidy 3 (omega arith) (h .1 .1 .1 .0),
-      )
-
-rows-tidy : (q : Four Packet) → AllOwned q → tidy (rowsFor q) ≡ true
-unfolding rowsFor
-rows-tidy q o =
-    laid-tidy (cellsOf (q .c0)) (cellsOf (q .c1)) (cellsOf (q .c2)) (cellsOf (q .c3))
-    (short (q .c0) (o .c0 .0), (short (q .c1) (o .c1 .0), (short (q .c2) (o .c2 .0), (short (q .c3) (o .c3 .0), tt))))
-  where
-    short : (ps : List Packet) → length ps ≤ room → length (cellsOf ps) ≤ room
-    short ps h = omega (arith, length-map ps (λ (p : Packet). cellOf p))
-
--- a sound view laid out is a sound state
-pub state-sound : (v : View) → sound v ≡ true → soundState (stateOf v) ≡ true
-unfolding soundState
-state-sound v e =
-    let f = sound-writable v e in
-    rw (
-      rows-tidy (v .waiting) (f .packets),
-      packed-tidy (v .last .at) (v .ledger) (f .admissions) (forty-are-enough v e),
-      view-state v f,
-    )
-    e
+use Rattle.gate.proofs.Views.{engine, said}
 
 -- what a state's outcome has in common with its view's result
 abbrev Reads : Result inQueues → Outcome → Type 0
 Reads w o = (viewOf (o .state) ≡ w .view) × (o .answer ≡ w .answer) × (soundState (o .state) ≡ true)
 
 pub call-reads : (s : State) (c : Call) → soundState s ≡ true → Reads (call (viewOf s) c) (callOn s c)
-unfolding callOn
+unfolding callOn soundState
 call-reads s c e =
-    rw e
-    (on-cond (Reads w) (isRefused (w .answer))
-    (λ r. (sym (refusals-change-nothing (viewOf s) c r), refl, e))
-    (λ r. (view-state (w .view) (sound-writable (w .view) kept), refl, state-sound (w .view) kept)))
-  where
-    w : Result inQueues
-    w = call (viewOf s) c
-
-    kept : sound (w .view) ≡ true
-    kept = calls-keep-sound (viewOf s) c (sound-parts s e .2)
+    on-sound-call engine (Reads (call (viewOf s) c)) s c e (λ same. (same, refl, e)) (λ same kept. (same, refl, kept))
 
 -- a run of states, read as a run of views
 pub record RunReads (s : State) (cs : List Call) : Type 0 where
@@ -121,7 +54,7 @@ run-reads s (c ∷ cs) e =
           ∙ ap (λ (v : View). (c, call (viewOf s) c .answer) ∷ events v cs) (r .0);
     }
 
-begins : (m : Making) → make m .answer ≡ Ready → sound (make m .view) ≡ true
+pub begins : (m : Making) → make m .answer ≡ Ready → sound (make m .view) ≡ true
 unfolding viewAfter
 begins m ready = demand3 m [] ready .sound-throughout
 
@@ -142,7 +75,7 @@ polls-right profile s j e c =
 
 -- demand 3 of the states that make hands out
 pub make-runs : (m : Making) → Runs (makeState m) m
-unfolding makeState
+unfolding makeState soundState
 make-runs m ready calls =
     record {
       sound-state = n .is-sound;
@@ -156,10 +89,10 @@ make-runs m ready calls =
     first = make m .view
 
     n : RunReads (stateOf first) calls
-    n = run-reads (stateOf first) calls (state-sound first (begins m ready))
+    n = run-reads (stateOf first) calls (state-sound engine first (begins m ready))
 
     back : viewOf (stateOf first) ≡ first
-    back = view-state first (sound-writable first (begins m ready))
+    back = engine .view-state first (begins m ready)
 
     claimed : Claims (m .profile) (viewOf (stateAfter (stateOf first) calls)) (journalOn m (stateOf first) calls)
     claimed =
@@ -188,7 +121,7 @@ answer-laid s o = on-cond (λ (x : Outcome). x .answer ≡ o .answer) (isRefused
 checks-alike : (s : State) (c : Call) → soundState s ≡ true → checksOn s c ≡ checks (viewOf s) c
 unfolding checks
 checks-alike s c e =
-    ap (λ (u : Bool). clockChecks u (s .head .clock) (stampOf c) (ownChecks (viewOf s) c)) (e ∙ sym (sound-parts s e .2))
+    ap (λ (u : Bool). clockChecks u (s .head .clock) (stampOf c) (ownChecks (viewOf s) c)) (e ∙ sym (said s e))
 
 pub refused-exactly : RefusedExactly
 unfolding callOn

@@ -13,8 +13,7 @@ use Rattle.model.specs.State.{View, sound}
 use Rattle.model.specs.Effects.{Result}
 use Rattle.model.specs.Gate.{makeIn, make, call}
 use Rattle.model.specs.Journal.{Journal, opened, journalOf}
-use Rattle.model.specs.Claims.{Claims, viewAfter}
-use Rattle.model.proofs.Demand3.{demand3}
+use Rattle.model.specs.Claims.{Claims}
 use Rattle.checks.proofs.Engine.{sound-view, state-sound, on-sound-call}
 use Rattle.line.specs.Line.{inList}
 use Rattle.line.specs.Same.{inParts}
@@ -154,24 +153,18 @@ pub sound-states-agree : SoundStatesAgree
 sound-states-agree s t ms a b e = same-moves s t ms (record { here = a; there = b; says = e })
 
 -- what the two makes give
-begins : (m : Making) → make m .answer ≡ Ready → sound (make m .view) ≡ true
-unfolding viewAfter
-begins m ready = demand3 m [] ready .sound-throughout
-
 made-same : (m : Making) → make m .answer ≡ Ready → Same (makeState m .state) (gate.makeState m .state)
-unfolding makeState gate.makeState soundState
+unfolding makeState gate.makeState soundState gate.soundState
 made-same m ready =
     let v = makeIn inList m .view in
     let w = make m .view in
     let t = made-alike m .1 in
-    let e = begins m ready in
+    let e = gate-runs.begins m ready in
     let h : sound v ≡ true = parts-sound v w t ∙ e in
     record {
       here = state-sound engine v h;
-      there = gate-runs.state-sound w e;
-      says =
-          ap inParts (engine .view-state v h) ∙ tied-parts v w t
-          ∙ sym (gate-views.view-state w (gate-views.sound-writable w e));
+      there = state-sound gate-views.engine w e;
+      says = ap inParts (engine .view-state v h) ∙ tied-parts v w t ∙ sym (gate-views.engine .view-state w e);
     }
 
 same-made : (m : Making) → makeState m .answer ≡ gate.makeState m .answer

@@ -2,7 +2,7 @@
 -- engine with one list. What is known of a sound state, group by group.
 use Prim.Native.Nat.{ℕ, _+_, _≤_}
 use mathlib.Core.Path.{_≡_, ap, sym, _∙_}
-use mathlib.Core.Bool.{Bool, true, _&&_}
+use mathlib.Core.Bool.{true, _&&_}
 use mathlib.Core.List.{[], _∷_}
 use native.Mathlib.Omega.{arith}
 use lib.ListN.{take}
@@ -57,13 +57,6 @@ pub keeps-sound : (v : Listed) (c : Call) → sound v ≡ true → sound (call v
 unfolding viewAfter
 keeps-sound v c e = sound-lists-agree v (c ∷ []) e .sound-throughout
 
--- what waits is tidy, and so is the ledger
-abbrev pub packedIn : State → Bool
-packedIn s = tidy (s .line)
-
-abbrev pub keptIn : State → Bool
-keptIn s = ledger.tidy (s .last .at) (s .ledger)
-
 -- the plain engine
 abbrev pub engine : Engine inList
 engine =
@@ -72,7 +65,8 @@ engine =
       Outcome = Outcome;
       viewOf = viewOf;
       stateOf = stateOf;
-      tidied = λ s. packedIn s && keptIn s;
+      packed = λ s. tidy (s .line);
+      kept = λ s. ledger.tidy (s .last .at) (s .ledger);
       outcome = outcome;
       tidy-state = tidy-state;
       view-state = λ v e. view-state v (sound-writable v e);

@@ -7,12 +7,6 @@ use Rattle.waiting.proofs.Meaning.{rows-popped}
 use Rattle.gate.proofs.Head.admit.Statement.{statement}
 use Rattle.gate.proofs.Head.admit.Tie as tie
 
-pop-from-requires : tie.Need-pop-from-requires
-pop-from-requires c κs = search needs
-
-cast-note : tie.Need-cast-note
-cast-note c = search needs
-
 note-requires : tie.Need-note-requires
 note-requires c κs =
     let p = c .before .before .before .before .before .before .before .before .before .before .before .before .pre in (
@@ -21,9 +15,6 @@ note-requires c κs =
       (p .tight, (p .room, (p .past, p .young))),
     )
 
-add-counts : tie.Need-add-counts
-add-counts c = search needs
-
 add-self : tie.Need-add-self
 add-self c =
     search (
@@ -31,15 +22,6 @@ add-self c =
       c .before .before .before .before .before .before .before .before .before .before .before .before .before
           .before .before .before .before .before .pre .room,
     )
-
-same-length : tie.Need-same-length
-same-length c = search needs
-
-same-length-2 : tie.Need-same-length-2
-same-length-2 c = search needs
-
-same-length-3 : tie.Need-same-length-3
-same-length-3 c = search needs
 
 returns : tie.Need-returns
 returns c =
@@ -56,13 +38,5 @@ returns c =
 pub admit-spec : {M : Type 1} → statement M
 admit-spec =
     tie.close
-    (tie.spec
-    pop-from-requires
-    cast-note
-    note-requires
-    add-counts
-    add-self
-    same-length
-    same-length-2
-    same-length-3
-    returns)
+    (tie.spec (λ c κs. search needs) (λ c. search needs) note-requires (λ c. search needs) add-self (λ c. search needs)
+    (λ c. search needs) (λ c. search needs) returns)

@@ -5,9 +5,6 @@ use Rattle.gate.proofs.Known.{admissions-fit}
 use Rattle.gate.proofs.Head.advance.Statement.{statement}
 use Rattle.gate.proofs.Head.advance.Tie as tie
 
-clock-at-requires : tie.Need-clock-at-requires
-clock-at-requires c κs = search needs
-
 cast-age : tie.Need-cast-age
 cast-age c = let s = c .before .before .before .before in search (needs, admissions-fit (s .args .self) _ (s .good .0))
 
@@ -23,9 +20,6 @@ cast-self c =
       admissions-fit (s .args .self) _ (s .good .0),
     )
 
-same-length : tie.Need-same-length
-same-length c = search needs
-
 returns : tie.Need-returns
 returns c =
     let at-age = c .before .before in
@@ -36,10 +30,4 @@ returns c =
 pub advance-spec : {M : Type 1} → statement M
 advance-spec =
     tie.close
-    (tie.spec
-    clock-at-requires
-    cast-age
-    age-requires
-    cast-self
-    same-length
-    returns)
+    (tie.spec (λ c κs. search needs) cast-age age-requires cast-self (λ c. search needs) returns)

@@ -7,9 +7,6 @@ use Rattle.gate.proofs.Moving.{cleared-by}
 use Rattle.gate.proofs.Head.clear.Statement.{statement}
 use Rattle.gate.proofs.Head.clear.Tie as tie
 
-expire-all-requires : tie.Need-expire-all-requires
-expire-all-requires c κs = search needs
-
 add-counts : tie.Need-add-counts
 add-counts c =
     let at-expire-all = c .before .before .before .before .before .before in
@@ -22,12 +19,6 @@ add-counts c =
           .now)) (s .pre .held .size),
     )
 
-same-length : tie.Need-same-length
-same-length c = search needs
-
-same-length-2 : tie.Need-same-length-2
-same-length-2 c = search needs
-
 returns : tie.Need-returns
 returns c =
     let at-expire-all = c .before .before .before .before .before .before in
@@ -38,9 +29,4 @@ returns c =
 pub clear-spec : {M : Type 1} → statement M
 clear-spec =
     tie.close
-    (tie.spec
-    expire-all-requires
-    add-counts
-    same-length
-    same-length-2
-    returns)
+    (tie.spec (λ c κs. search needs) add-counts (λ c. search needs) (λ c. search needs) returns)

@@ -12,9 +12,6 @@ use Rattle.gate.proofs.Head.is_full.Tie as tie
 returns : tie.Need-returns
 returns c = sym (rw (ne-eqb (c .before .before .before .before .args .self .oldway) 1 (c .if1 .taken)))
 
-count-live-of-requires : tie.Need-count-live-of-requires
-count-live-of-requires c κs = search needs
-
 returns-2 : tie.Need-returns-2
 returns-2 c =
     let s = c .before .before .before .before .before in
@@ -23,4 +20,4 @@ returns-2 c =
     .count-live-of .ensures)))
 
 pub is-full-spec : {M : Type 1} → statement M
-is-full-spec = tie.close (tie.spec returns count-live-of-requires returns-2)
+is-full-spec = tie.close (tie.spec returns (λ c κs. search needs) returns-2)

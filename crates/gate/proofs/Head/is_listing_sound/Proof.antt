@@ -16,16 +16,10 @@ cast-held : tie.Need-cast-held
 cast-held c =
     let s = c .before .before .before .before .before in search (needs, loads-fit (s .args .self) _ (s .good .0))
 
-is-list-sound-requires : tie.Need-is-list-sound-requires
-is-list-sound-requires c κs = search needs
-
 returns : tie.Need-returns
 unfolding listingSound
 returns c =
     simp (eq-eqb _ _ (c .before .before .if1 .taken), sym (c .before .is-list-sound .ensures) ∙ not-true _ (c .if2 .taken))
-
-are-loads-sound-requires : tie.Need-are-loads-sound-requires
-are-loads-sound-requires c κs = search needs
 
 returns-2 : tie.Need-returns-2
 unfolding listingSound
@@ -44,9 +38,6 @@ returns-4 : tie.Need-returns-4
 unfolding listingSound noneListed
 returns-4 c = simp (ne-eqb _ _ (c .before .before .before .if1 .left), ne-eqb _ _ (c .if4 .taken), and-false)
 
-are-zero-requires : tie.Need-are-zero-requires
-are-zero-requires c κs = search needs
-
 returns-5 : tie.Need-returns-5
 unfolding listingSound noneListed
 returns-5 c =
@@ -57,9 +48,6 @@ returns-5 c =
       and-false,
     )
 
-are-zero-requires-2 : tie.Need-are-zero-requires-2
-are-zero-requires-2 c κs = search needs
-
 returns-6 : tie.Need-returns-6
 unfolding listingSound noneListed
 returns-6 c =
@@ -69,9 +57,6 @@ returns-6 c =
           .ensures) ∙ not-true _ (c .if6 .taken),
       and-false,
     )
-
-are-loads-none-requires : tie.Need-are-loads-none-requires
-are-loads-none-requires c κs = search needs
 
 returns-7 : tie.Need-returns-7
 unfolding listingSound noneListed
@@ -91,18 +76,5 @@ returns-7 c =
 pub is-listing-sound-spec : {M : Type 1} → statement M
 is-listing-sound-spec =
     tie.close
-    (tie.spec
-    cast-n
-    cast-held
-    is-list-sound-requires
-    returns
-    are-loads-sound-requires
-    returns-2
-    returns-3
-    returns-4
-    are-zero-requires
-    returns-5
-    are-zero-requires-2
-    returns-6
-    are-loads-none-requires
-    returns-7)
+    (tie.spec cast-n cast-held (λ c κs. search needs) returns (λ c κs. search needs) returns-2 returns-3 returns-4
+    (λ c κs. search needs) returns-5 (λ c κs. search needs) returns-6 (λ c κs. search needs) returns-7)

@@ -1,17 +1,18 @@
 -- One group after the other: the first that fails makes the state unsound, and the ledger decides.
-use Prim.Native.Nat.{ℕ, _≤_}
-use mathlib.Core.Path.{_≡_, sym, _∙_, ap}
-use mathlib.Core.Bool.{true}
+use Prim.Native.Nat.{_≤_}
+use mathlib.Core.Path.{_≡_, sym, _∙_}
 use native.Mathlib.Omega.{arith}
-use lib.Dec.{leb}
 use borrow.Author.Needs.{needs}
-use borrow.Author.Tests.{le-leb, not-true, not-false}
-use Rattle.rules.specs.Tests.{allOf}
-use Rattle.model.specs.State.{countRules}
+use borrow.Author.Tests.{not-true, not-false}
+use Rattle.ledger.specs.Layout.{soundLedger}
+use Rattle.checks.proofs.Judged.{in-time, no, unsound-live, unsound-way, unsound-control, unsound-time, unsound-last}
+use Rattle.checks.proofs.Judged.{unsound-waiting, unsound-counts, by-ledger}
+use Rattle.waiting.specs.Layout.{soundQueues}
+use Rattle.waiting.proofs.Meaning.{how-many}
 use Rattle.gate.specs.declared.State.{State}
-use Rattle.gate.specs.Layout.{stateWith}
-use Rattle.gate.proofs.Judged.{no, unsound-live, unsound-way, unsound-tuning, unsound-listing, unsound-time, unsound-last}
-use Rattle.gate.proofs.Judged.{unsound-queues, unsound-counts, in-time, queues-held, by-ledger, laid-out}
+use Rattle.gate.specs.Layout.{stateWith, rowsIn, soundState}
+use Rattle.gate.proofs.Views.{engine}
+use Rattle.gate.proofs.Judged.{not-tuned, not-listing, steers, queues-held, laid-out}
 use Rattle.gate.proofs.Known.{levels-fit, admissions-fit}
 use Rattle.gate.proofs.Head.is_sound.Statement.{statement}
 use Rattle.gate.proofs.Head.is_sound.Tie as tie
@@ -22,12 +23,14 @@ given s =
     (s .args .above .now) (s .args .waits .now)
 
 returns : tie.Need-returns
+unfolding soundState
 returns c =
-    let s = c .before .before .before .before .before .before .before .before in no _ _ (unsound-live (given s) (c .if1 .taken))
+    let s = c .before .before .before .before .before .before .before .before in no _ _ (unsound-live engine (given s) (c .if1 .taken))
 
 returns-2 : tie.Need-returns-2
+unfolding soundState
 returns-2 c =
-    let s = c .before .before .before .before .before .before .before .before .before .before in no _ _ (unsound-way (given s)
+    let s = c .before .before .before .before .before .before .before .before .before .before in no _ _ (unsound-way engine (given s)
     (omega (arith, c .if2 .taken)))
 
 cast-is-tuning-sound : tie.Need-cast-is-tuning-sound
@@ -37,40 +40,32 @@ cast-is-tuning-sound c =
       levels-fit (s .args .self) _ (s .good .0),
     )
 
-is-tuning-sound-requires : tie.Need-is-tuning-sound-requires
-is-tuning-sound-requires c κs = search needs
-
 returns-3 : tie.Need-returns-3
+unfolding soundState
 returns-3 c =
     let s = c .before .before .before .before .before .before .before .before .before .before .before .before .before .before in
-    no _ _ (unsound-tuning (given s) (sym (c .before .is-tuning-sound .ensures) ∙ not-true _ (c .if3 .taken)))
-
-is-listing-sound-requires : tie.Need-is-listing-sound-requires
-is-listing-sound-requires c κs = search needs
+    no _ _ (unsound-control engine (given s) (not-tuned (given s) (sym (c .before .is-tuning-sound .ensures) ∙ not-true _ (c .if3 .taken))))
 
 returns-4 : tie.Need-returns-4
+unfolding soundState
 returns-4 c =
     let s = c .before .before .before .before .before .before .before .before .before .before .before .before .before .before
     .before .before in
-    no _ _ (unsound-listing (given s) (sym (c .before .is-listing-sound .ensures) ∙ not-true _ (c .if4 .taken)))
-
-passes-end-requires : tie.Need-passes-end-requires
-passes-end-requires c κs = search needs
+    no _ _ (unsound-control engine (given s) (not-listing (given s) (sym (c .before .is-listing-sound .ensures) ∙ not-true _ (c .if4 .taken))))
 
 returns-5 : tie.Need-returns-5
+unfolding soundState
 returns-5 c =
     let s = c .before .before .before .before .before .before .before .before .before .before .before .before .before .before
     .before .before .before .before in
-    no _ _ (unsound-time (given s) (sym (c .before .passes-end .ensures) ∙ c .if5 .taken))
-
-is-last-sound-requires : tie.Need-is-last-sound-requires
-is-last-sound-requires c κs = search needs
+    no _ _ (unsound-time engine (given s) (sym (c .before .passes-end .ensures) ∙ c .if5 .taken))
 
 returns-6 : tie.Need-returns-6
+unfolding soundState
 returns-6 c =
     let s = c .before .before .before .before .before .before .before .before .before .before .before .before .before .before
     .before .before .before .before .before .before .before in
-    no _ _ (unsound-last (given s) (sym (c .before .is-last-sound .ensures) ∙ not-true _ (c .if6 .taken)))
+    no _ _ (unsound-last engine (given s) (sym (c .before .is-last-sound .ensures) ∙ not-true _ (c .if6 .taken)))
 
 are-queues-sound-requires : tie.Need-are-queues-sound-requires
 are-queues-sound-requires c κs =
@@ -78,10 +73,11 @@ are-queues-sound-requires c κs =
     .before .before .before .before .before .before .pre .queues
 
 returns-7 : tie.Need-returns-7
+unfolding soundState soundQueues
 returns-7 c =
     let s = c .before .before .before .before .before .before .before .before .before .before .before .before .before .before
     .before .before .before .before .before .before .before .before .before in
-    no _ _ (unsound-queues (given s) (sym (c .before .are-queues-sound .ensures) ∙ not-true _ (c .if7 .taken)))
+    no _ _ (unsound-waiting engine (given s) (sym (c .before .are-queues-sound .ensures) ∙ not-true _ (c .if7 .taken)))
 
 count-requires : tie.Need-count-requires
 count-requires c κs =
@@ -90,16 +86,14 @@ count-requires c κs =
     .before .before .before .before .before .before .before .before .before .before in
     queues-held (given s) (s .pre) (sym (at-are-queues-sound .are-queues-sound .ensures) ∙ not-false _ (c .before .if7 .left))
 
-are-counts-sound-requires : tie.Need-are-counts-sound-requires
-are-counts-sound-requires c κs = search needs
-
 returns-8 : tie.Need-returns-8
+unfolding soundState
 returns-8 c =
     let at-count = c .before .before in
     let s = at-count .before .before .before .before .before .before .before .before .before .before .before .before .before
     .before .before .before .before .before .before .before .before .before .before .before .before in
-    no _ _ (unsound-counts (given s) (ap (λ (n : ℕ). allOf (countRules n (s .args .self .counts))) (sym (at-count .count
-    .ensures)) ∙ sym (c .before .are-counts-sound .ensures) ∙ not-true _ (c .if8 .taken)))
+    no _ _ (unsound-counts engine (given s) _ (at-count .count .ensures ∙ how-many (rowsIn (given s)))
+    (sym (c .before .are-counts-sound .ensures) ∙ not-true _ (c .if8 .taken)))
 
 cast-is-sound : tie.Need-cast-is-sound
 cast-is-sound c =
@@ -115,6 +109,7 @@ is-sound-requires c κs =
     (s .pre .air, in-time _ (sym (at-if5 .before .passes-end .ensures) ∙ at-if5 .if5 .left))
 
 returns-9 : tie.Need-returns-9
+unfolding soundState soundQueues soundLedger
 returns-9 c =
     let at-if8 = c .before .before in
     let at-count = at-if8 .before .before in
@@ -126,21 +121,20 @@ returns-9 c =
     let at-if2 = at-if3 .before .before .before .before in
     let at-if1 = at-if2 .before .before in
     let s = at-if1 .before .before .before .before .before .before .before .before in
-    let old-or-new : leb (s .args .self .oldway) 1 ≡ true = le-leb (s .args .self .oldway) 1 (omega (arith, at-if2 .if2 .left))
-    in
+    let old-or-new : s .args .self .oldway ≤ 1 = omega (arith, at-if2 .if2 .left) in
+    let tuned = sym (at-if3 .before .is-tuning-sound .ensures) ∙ not-false _ (at-if3 .if3 .left) in
+    let listing = sym (at-if4 .before .is-listing-sound .ensures) ∙ not-false _ (at-if4 .if4 .left) in
+    let timely = sym (at-if5 .before .passes-end .ensures) ∙ at-if5 .if5 .left in
+    let lasting = sym (at-if6 .before .is-last-sound .ensures) ∙ not-false _ (at-if6 .if6 .left) in
     let queued = sym (at-if7 .before .are-queues-sound .ensures) ∙ not-false _ (at-if7 .if7 .left) in
-    let same = by-ledger (given s) (at-if1 .if1 .left) old-or-new (sym (at-if3 .before .is-tuning-sound .ensures) ∙ not-false _
-    (at-if3 .if3 .left))
-    (sym (at-if4 .before .is-listing-sound .ensures) ∙ not-false _ (at-if4 .if4 .left)) (sym (at-if5 .before .passes-end
-    .ensures) ∙ at-if5 .if5 .left)
-    (sym (at-if6 .before .is-last-sound .ensures) ∙ not-false _ (at-if6 .if6 .left)) queued
-    (ap (λ (n : ℕ). allOf (countRules n (s .args .self .counts))) (sym (at-count .count .ensures)) ∙ sym (at-if8 .before
-    .are-counts-sound .ensures) ∙ not-false _ (at-if8 .if8 .left)) in
+    let counted = sym (at-if8 .before .are-counts-sound .ensures) ∙ not-false _ (at-if8 .if8 .left) in
+    let same = by-ledger engine (given s) _ (at-count .count .ensures ∙ how-many (rowsIn (given s))) (at-if1 .if1 .left)
+    old-or-new (steers (given s) tuned listing) timely lasting queued counted in
     (c .is-sound .ensures ∙ sym same, λ z. laid-out (given s) (s .pre) queued (sym (c .is-sound .ensures) ∙ z))
 
 pub is-sound-spec : {M : Type 1} → statement M
 is-sound-spec =
     tie.close
-    (tie.spec returns returns-2 cast-is-tuning-sound is-tuning-sound-requires returns-3 is-listing-sound-requires returns-4
-    passes-end-requires returns-5 is-last-sound-requires returns-6 are-queues-sound-requires returns-7 count-requires
-    are-counts-sound-requires returns-8 cast-is-sound is-sound-requires returns-9)
+    (tie.spec returns returns-2 cast-is-tuning-sound (λ c κs. search needs) returns-3 (λ c κs. search needs) returns-4
+    (λ c κs. search needs) returns-5 (λ c κs. search needs) returns-6 are-queues-sound-requires returns-7 count-requires
+    (λ c κs. search needs) returns-8 cast-is-sound is-sound-requires returns-9)

@@ -6,9 +6,6 @@ use Rattle.gate.proofs.Offering.{few-gone, joins}
 use Rattle.gate.proofs.Head.join.Statement.{statement}
 use Rattle.gate.proofs.Head.join.Tie as tie
 
-cast-k : tie.Need-cast-k
-cast-k c = search needs
-
 make-room-requires : tie.Need-make-room-requires
 make-room-requires c κs = let p = c .before .before .before .before .before .pre in (p .held, p .queue)
 
@@ -18,21 +15,12 @@ push-to-requires c κs =
     let s = at-make-room .before .before .before .before .before .before in
     let f = at-make-room .make-room .ensures in (f .held, (s .pre .queue, f .free))
 
-add-counts : tie.Need-add-counts
-add-counts c = search needs
-
 add-counts-2 : tie.Need-add-counts-2
 add-counts-2 c =
     let at-make-room = c .before .before .before .before .before .before .before .before .before .before .before .before
     .before .before in
     let s = at-make-room .before .before .before .before .before .before in
     search (needs, s .pre .displaced, few-gone _ _ _ _ (at-make-room .make-room .ensures))
-
-same-length : tie.Need-same-length
-same-length c = search needs
-
-same-length-2 : tie.Need-same-length-2
-same-length-2 c = search needs
 
 returns : tie.Need-returns
 returns c =
@@ -44,12 +32,5 @@ returns c =
 pub join-spec : {M : Type 1} → statement M
 join-spec =
     tie.close
-    (tie.spec
-    cast-k
-    make-room-requires
-    push-to-requires
-    add-counts
-    add-counts-2
-    same-length
-    same-length-2
-    returns)
+    (tie.spec (λ c. search needs) make-room-requires push-to-requires (λ c. search needs) add-counts-2 (λ c. search needs)
+    (λ c. search needs) returns)

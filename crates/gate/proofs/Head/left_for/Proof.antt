@@ -7,21 +7,6 @@ use Rattle.checks.specs.Checks.{leftAt}
 use Rattle.gate.proofs.Head.left_for.Statement.{statement}
 use Rattle.gate.proofs.Head.left_for.Tie as tie
 
-cast-wait : tie.Need-cast-wait
-cast-wait c = search needs
-
-wait-requires : tie.Need-wait-requires
-wait-requires c κs = search needs
-
-closed-after-requires : tie.Need-closed-after-requires
-closed-after-requires c κs = search needs
-
-left-of-requires : tie.Need-left-of-requires
-left-of-requires c κs = search needs
-
-cast-air-left : tie.Need-cast-air-left
-cast-air-left c = search needs
-
 air-left-requires : tie.Need-air-left-requires
 air-left-requires c κs =
     let n = c .before .before .before .before .before .before .before .before .before .pre .1 .1 in (
@@ -35,9 +20,6 @@ air-left-requires c κs =
         ),
       ),
     )
-
-longer-requires : tie.Need-longer-requires
-longer-requires c κs = search needs
 
 returns : tie.Need-returns
 returns c =
@@ -56,12 +38,5 @@ returns c =
 pub left-for-spec : {M : Type 1} → statement M
 left-for-spec =
     tie.close
-    (tie.spec
-    cast-wait
-    wait-requires
-    closed-after-requires
-    left-of-requires
-    cast-air-left
-    air-left-requires
-    longer-requires
-    returns)
+    (tie.spec (λ c. search needs) (λ c κs. search needs) (λ c κs. search needs) (λ c κs. search needs) (λ c. search needs)
+    air-left-requires (λ c κs. search needs) returns)

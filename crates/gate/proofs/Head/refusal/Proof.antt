@@ -22,23 +22,11 @@ queued s = waitingIn (rows (s .args .queues .now) (s .args .came .now))
 abbrev later : tie.Start → ℕ
 later s = stepped (s .args .self .clock) (s .args .stamp) .time
 
-step-requires : tie.Need-step-requires
-step-requires c κs = search needs
-
-goes-back-requires : tie.Need-goes-back-requires
-goes-back-requires c κs = search needs
-
 returns : tie.Need-returns
 returns c =
     let s = c .before .before .before .before .before .before in
     goes-back (s .args .self) (queued s) (s .args .request) (s .args .stamp)
     (ap goesBack (sym (c .before .before .step .ensures)) ∙ sym (c .before .goes-back .ensures) ∙ c .if1 .taken)
-
-clock-at-requires : tie.Need-clock-at-requires
-clock-at-requires c κs = search needs
-
-passes-end-requires : tie.Need-passes-end-requires
-passes-end-requires c κs = search needs
 
 returns-2 : tie.Need-returns-2
 returns-2 c =
@@ -50,12 +38,6 @@ returns-2 c =
     passes-end (s .args .self) (queued s) (s .args .request) (s .args .stamp) on
     (ap (λ (k : Clock). passesEnd (k .time)) (sym (at-clock-at .clock-at .ensures)) ∙ sym (c .before .passes-end .ensures) ∙ c
     .if2 .taken)
-
-enum-known-request : tie.Need-enum-known-request
-enum-known-request c = search needs
-
-is-bad-count-requires : tie.Need-is-bad-count-requires
-is-bad-count-requires c κs = search needs
 
 returns-3 : tie.Need-returns-3
 returns-3 c =
@@ -70,15 +52,6 @@ returns-3 c =
     .ensures) ∙ at-if2 .if2 .left in
     by-request (s .args .self) (queued s) (s .args .request) (s .args .stamp) on past _ (at-request .request .given .1) _
     (is-4 (s .args .self) (queued s) (later s) _ _ (sym (c .before .is-bad-count .ensures) ∙ c .if3 .taken))
-
-enum-known-request-2 : tie.Need-enum-known-request-2
-enum-known-request-2 c = search needs
-
-offer-refusal-requires : tie.Need-offer-refusal-requires
-offer-refusal-requires c κs = search needs
-
-enum-told : tie.Need-enum-told
-enum-told c = search needs
 
 returns-4 : tie.Need-returns-4
 returns-4 c =
@@ -126,19 +99,6 @@ returns-6 c =
 pub refusal-spec : {M : Type 1} → statement M
 refusal-spec =
     tie.close
-    (tie.spec
-    step-requires
-    goes-back-requires
-    returns
-    clock-at-requires
-    passes-end-requires
-    returns-2
-    enum-known-request
-    is-bad-count-requires
-    returns-3
-    enum-known-request-2
-    offer-refusal-requires
-    enum-told
-    returns-4
-    returns-5
-    returns-6)
+    (tie.spec (λ c κs. search needs) (λ c κs. search needs) returns (λ c κs. search needs) (λ c κs. search needs) returns-2
+    (λ c. search needs) (λ c κs. search needs) returns-3 (λ c. search needs) (λ c κs. search needs) (λ c. search needs)
+    returns-4 returns-5 returns-6)

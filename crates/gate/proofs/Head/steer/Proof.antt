@@ -1,20 +1,10 @@
 -- In profile 5 the load is noted and the level follows the loads as noted; in every other both stay.
 use borrow.Author.Needs.{needs}
-use Rattle.gate.proofs.Sampling.{noted-few, steered-listed, steered-unlisted}
+use Rattle.machine.specs.Loads.{notedIf}
+use Rattle.checks.proofs.Sampling.{sampled-listed, sampled-unlisted}
+use Rattle.gate.proofs.Sampling.{noted-few, control, steered-by}
 use Rattle.gate.proofs.Head.steer.Statement.{statement}
 use Rattle.gate.proofs.Head.steer.Tie as tie
-
-cast-note-load : tie.Need-cast-note-load
-cast-note-load c = search needs
-
-note-load-requires : tie.Need-note-load-requires
-note-load-requires c κs = search needs
-
-cast-level-after : tie.Need-cast-level-after
-cast-level-after c = search needs
-
-level-after-requires : tie.Need-level-after-requires
-level-after-requires c κs = search needs
 
 tuning-after-requires : tie.Need-tuning-after-requires
 tuning-after-requires c κs =
@@ -27,36 +17,27 @@ tuning-after-requires c κs =
 cast-self : tie.Need-cast-self
 cast-self c = search (needs, noted-few _ _ _ _ (c .before .before .before .before .before .before .note-load .ensures))
 
-same-length : tie.Need-same-length
-same-length c = search needs
-
 returns : tie.Need-returns
+unfolding notedIf
 returns c =
     let at-note-load = c .before .before .before .before .before .before in
     let at-if1 = at-note-load .before .before .before in
     let s = at-if1 .before .before .before .before .before in
-    steered-listed (s .args .self) (s .args .load) _ _ _ _ _ _ (at-if1 .if1 .taken) (at-note-load .note-load .ensures) (c
-    .before .level-after .ensures) (c .tuning-after .ensures)
-
-tuning-after-requires-2 : tie.Need-tuning-after-requires-2
-tuning-after-requires-2 c κs = search needs
+    let a = s .args in
+    steered-by (a .self) (a .load) (a .above .now) (a .loads .now) _ _ _
+    (sampled-listed (control (a .self) (a .load) (a .above .now) (a .loads .now)) (a .load) _ _ (c .tuning-after .ensures) _
+    (at-if1 .if1 .taken) (at-note-load .note-load .ensures) (c .before .level-after .ensures))
 
 returns-2 : tie.Need-returns-2
 returns-2 c =
     let s = c .before .before .before .before .before .before in
-    steered-unlisted (s .args .self) (s .args .load) _ _ _ _ (c .before .if1 .left) (c .tuning-after2 .ensures)
+    let a = s .args in
+    steered-by (a .self) (a .load) (a .above .now) (a .loads .now) _ _ _
+    (sampled-unlisted (control (a .self) (a .load) (a .above .now) (a .loads .now)) (a .load) _ _ (c .tuning-after2 .ensures)
+    (c .before .if1 .left))
 
 pub steer-spec : {M : Type 1} → statement M
 steer-spec =
     tie.close
-    (tie.spec
-    cast-note-load
-    note-load-requires
-    cast-level-after
-    level-after-requires
-    tuning-after-requires
-    cast-self
-    same-length
-    returns
-    tuning-after-requires-2
-    returns-2)
+    (tie.spec (λ c. search needs) (λ c κs. search needs) (λ c. search needs) (λ c κs. search needs) tuning-after-requires
+    cast-self (λ c. search needs) returns (λ c κs. search needs) returns-2)

@@ -5,12 +5,13 @@ use borrow.Author.Needs.{needs}
 use Rattle.rules.proofs.Probes.{load-le}
 use Rattle.checks.specs.declared.Request.{Request}
 use Rattle.checks.specs.Checks.{callOf}
+use Rattle.checks.proofs.Entry.{Passed}
 use Rattle.gate.specs.declared.State.{State}
 use Rattle.gate.specs.declared.Outcome.{Outcome}
 use Rattle.gate.specs.Layout.{stateWith, callOn}
-use Rattle.gate.proofs.Views.{known}
+use Rattle.gate.proofs.Views.{engine, known}
 use Rattle.gate.proofs.Judged.{settled}
-use Rattle.gate.proofs.Entry.{same-number, refused, Entered, entered, good-count, turned, is-polled}
+use Rattle.gate.proofs.Entry.{refused, entered, good-count, turned, is-polled}
 use Rattle.gate.proofs.Moving.{advanceable, still-steerable, clearable}
 use Rattle.gate.proofs.Sampling.{sample-taken}
 use Rattle.gate.proofs.Offering.{joinable, offer-taken}
@@ -28,10 +29,10 @@ abbrev start : tie.Else1 → tie.Start
 start c = c .before .before .before .before .before .before .before .before .before .before
 
 passed : (c : tie.Else1) (r : Request) → start c .args .request ≡ r
-    → Entered (given (start c)) (callOf r (start c .args .stamp))
+    → Passed engine (given (start c)) (callOf r (start c .args .stamp))
 passed c r e =
     let s = start c in
-    entered (given s) (s .args .request) r (s .args .stamp) _ (s .pre .is-sound) (c .before .refusal .ensures) (c .if1 .left) e
+    entered (given s) (s .args .request) (s .args .stamp) _ (s .pre .is-sound) (c .before .refusal .ensures) r (c .if1 .left) e
 
 -- the call of a request
 abbrev called : tie.Start → Request → Outcome
@@ -40,15 +41,14 @@ called s r = callOn (given s) (callOf r (s .args .stamp))
 refusal-requires : tie.Need-refusal-requires
 refusal-requires c κs =
     let s = c .before .before .before .before .before .before .before .before in
-    let k = known (given s) (settled (given s) (s .pre)) in (k .held, k .time)
+    let k = known (given s) (settled (given s) (s .pre)) in (k .held, k .groups .time)
 
 returns : tie.Need-returns
 returns c =
     let s = c .before .before .before .before .before .before .before .before .before .before .before in
     turned _ _ _ _ _ _ _ _ _ _ (c .answered .ensures)
-    (refused (given s) (callOf (s .args .request) (s .args .stamp)) _ (s .pre .is-sound)
-    (c .before .before .refusal .ensures ∙ same-number (given s) (s .args .request) (s .args .stamp) (s .pre .is-sound)) (c
-    .before .if1 .taken))
+    (refused (given s) (s .args .request) (s .args .stamp) _ (s .pre .is-sound) (c .before .before .refusal .ensures)
+    (c .before .if1 .taken))
 
 advance-requires : tie.Need-advance-requires
 advance-requires c κs =

@@ -43,18 +43,6 @@ few k =
     few-kept (a .profile) (a .oldway) (a .n) (a .calm) (a .stamp) (a .thresholds .now) (a .pauses .now) _ _
     (k .before .refusal .ensures) (k .kept .ensures)
 
-wipe-all-requires : tie.Need-wipe-all-requires
-wipe-all-requires c κs = search needs
-
-refusal-requires : tie.Need-refusal-requires
-refusal-requires c κs = search needs
-
-kept-requires : tie.Need-kept-requires
-kept-requires c κs = search needs
-
-cast-copy : tie.Need-cast-copy
-cast-copy c = search needs
-
 copy-requires : tie.Need-copy-requires
 copy-requires c κs =
     let k = c .before in
@@ -62,21 +50,12 @@ copy-requires c κs =
     let l = long (wiped-by k) (λ (x : State). x .above) (s .pre .0 .above) in
     (omega (arith, few k, s .pre .1 .0), omega (arith, few k, l, s .pre .0 .above))
 
-cast-copy-2 : tie.Need-cast-copy-2
-cast-copy-2 c = search needs
-
 copy-requires-2 : tie.Need-copy-requires-2
 copy-requires-2 c κs =
     let k = c .before .before .before .before .before in
     let s = start-of (wiped-by k) in
     let l = long (wiped-by k) (λ (x : State). x .waits) (s .pre .0 .waits) in
     (omega (arith, few k, s .pre .1 .1), omega (arith, few k, l, s .pre .0 .waits))
-
-kept-requires-2 : tie.Need-kept-requires-2
-kept-requires-2 c κs = search needs
-
-turn-of-requires : tie.Need-turn-of-requires
-turn-of-requires c κs = search needs
 
 same-length : tie.Need-same-length
 same-length c =
@@ -125,20 +104,6 @@ returns c =
 pub make-in-spec : {M : Type 1} → statement M
 make-in-spec =
     tie.close
-    (tie.spec
-    wipe-all-requires
-    refusal-requires
-    kept-requires
-    cast-copy
-    copy-requires
-    cast-copy-2
-    copy-requires-2
-    kept-requires-2
-    turn-of-requires
-    same-length
-    same-length-2
-    same-length-3
-    same-length-4
-    same-length-5
-    same-length-6
-    returns)
+    (tie.spec (λ c κs. search needs) (λ c κs. search needs) (λ c κs. search needs) (λ c. search needs) copy-requires
+    (λ c. search needs) copy-requires-2 (λ c κs. search needs) (λ c κs. search needs) same-length same-length-2 same-length-3
+    same-length-4 same-length-5 same-length-6 returns)

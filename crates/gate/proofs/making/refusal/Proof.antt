@@ -6,9 +6,6 @@ use Rattle.rules.specs.Refusals.{firstOf}
 use Rattle.gate.proofs.making.refusal.Statement.{statement}
 use Rattle.gate.proofs.making.refusal.Tie as tie
 
-lies-within-requires : tie.Need-lies-within-requires
-lies-within-requires c κs = search needs
-
 returns : tie.Need-returns
 unfolding firstOf
 returns c = rw (sym (c .before .lies-within .ensures) ∙ not-true _ (c .if1 .taken))
@@ -32,9 +29,6 @@ returns-3 c =
       le-ltb 1 _ (w .if2 .left),
       ne-eqb _ 5 (c .if3 .taken),
     )
-
-is-list-good-requires : tie.Need-is-list-good-requires
-is-list-good-requires c κs = search needs
 
 returns-4 : tie.Need-returns-4
 unfolding firstOf
@@ -65,11 +59,4 @@ returns-5 c =
 pub refusal-spec : {M : Type 1} → statement M
 refusal-spec =
     tie.close
-    (tie.spec
-    lies-within-requires
-    returns
-    returns-2
-    returns-3
-    is-list-good-requires
-    returns-4
-    returns-5)
+    (tie.spec (λ c κs. search needs) returns returns-2 returns-3 (λ c κs. search needs) returns-4 returns-5)

@@ -5,22 +5,10 @@ use Rattle.gate.specs.Making.{turnOf}
 use Rattle.gate.proofs.making.turn_of.Statement.{statement}
 use Rattle.gate.proofs.making.turn_of.Tie as tie
 
-none-requires : tie.Need-none-requires
-none-requires c κs = search needs
-
-head-of-requires : tie.Need-head-of-requires
-head-of-requires c κs = search needs
-
 returns : tie.Need-returns
 unfolding turnOf
 returns c =
     rw (c .head-of .ensures, c .before .none .ensures, ne-eqb _ 0 (c .before .before .if1 .taken))
-
-fresh-requires : tie.Need-fresh-requires
-fresh-requires c κs = search needs
-
-head-of-requires-2 : tie.Need-head-of-requires-2
-head-of-requires-2 c κs = search needs
 
 returns-2 : tie.Need-returns-2
 unfolding turnOf
@@ -30,4 +18,4 @@ returns-2 c =
 pub turn-of-spec : {M : Type 1} → statement M
 turn-of-spec =
     tie.close
-    (tie.spec none-requires head-of-requires returns fresh-requires head-of-requires-2 returns-2)
+    (tie.spec (λ c κs. search needs) (λ c κs. search needs) returns (λ c κs. search needs) (λ c κs. search needs) returns-2)

@@ -12,21 +12,21 @@ use Rattle.line.specs.Layout.{soundLine}
 use Rattle.line.proofs.Packing.{packed-length}
 use Rattle.checks.proofs.Judged.{in-time, no, unsound-live, unsound-way, unsound-control, unsound-time, unsound-last}
 use Rattle.checks.proofs.Judged.{unsound-waiting, unsound-counts, by-ledger}
-use Rattle.plain.specs.Layout.{viewOf, soundState}
-use Rattle.plain.proofs.Views.{packedIn, keptIn, laid-out}
+use Rattle.plain.specs.Layout.{soundState}
+use Rattle.plain.proofs.Views.{engine, laid-out}
 use borrow.Author.Needs.{needs}
 use Rattle.plain.proofs.State.is_sound.Statement.{statement}
 use Rattle.plain.proofs.State.is_sound.Tie as tie
 
 returns : tie.Need-returns
 unfolding soundState
-returns c = let s = c .before .before .args .self in no _ _ (unsound-live (packedIn s) (keptIn s) (viewOf s) (c .if1 .taken))
+returns c = let s = c .before .before .args .self in no _ _ (unsound-live engine s (c .if1 .taken))
 
 returns-2 : tie.Need-returns-2
 unfolding soundState
 returns-2 c =
     let s = c .before .before .before .before .args .self in
-    no _ _ (unsound-way (packedIn s) (keptIn s) (viewOf s) (omega (arith, c .if2 .taken)))
+    no _ _ (unsound-way engine s (omega (arith, c .if2 .taken)))
 
 is-sound-requires : tie.Need-is-sound-requires
 is-sound-requires c κs = search needs
@@ -37,7 +37,7 @@ returns-3 c =
     let control = c .before in
     let way = control .before .before .before .before in
     let s = way .before .before .before .before .args .self in
-    no _ _ (unsound-control (packedIn s) (keptIn s) (viewOf s)
+    no _ _ (unsound-control engine s
     (sym (c .before .is-sound .ensures) ∙ not-true _ (c .if3 .taken)))
 
 passes-end-requires : tie.Need-passes-end-requires
@@ -49,7 +49,7 @@ returns-4 c =
     let control = c .before .before .before in
     let way = control .before .before .before .before in
     let s = way .before .before .before .before .args .self in
-    no _ _ (unsound-time (packedIn s) (keptIn s) (viewOf s)
+    no _ _ (unsound-time engine s
     (sym (c .before .passes-end .ensures) ∙ c .if4 .taken))
 
 is-last-sound-requires : tie.Need-is-last-sound-requires
@@ -61,7 +61,7 @@ returns-5 c =
     let control = c .before .before .before .before .before .before in
     let way = control .before .before .before .before in
     let s = way .before .before .before .before .args .self in
-    no _ _ (unsound-last (packedIn s) (keptIn s) (viewOf s)
+    no _ _ (unsound-last engine s
     (sym (c .before .is-last-sound .ensures) ∙ not-true _ (c .if5 .taken)))
 
 is-sound-requires-2 : tie.Need-is-sound-requires-2
@@ -75,7 +75,7 @@ returns-6 c =
     let time = last .before .before .before in
     let way = time .before .before .before .before .before .before in
     let s = way .before .before .before .before .args .self in
-    no _ _ (unsound-waiting (packedIn s) (keptIn s) (viewOf s) (sym (line .is-sound2 .ensures .0) ∙ not-true _ (c .if6 .taken)))
+    no _ _ (unsound-waiting engine s (sym (line .is-sound2 .ensures .0) ∙ not-true _ (c .if6 .taken)))
 
 are-counts-sound-requires : tie.Need-are-counts-sound-requires
 are-counts-sound-requires c κs = search needs
@@ -88,7 +88,7 @@ returns-7 c =
     let way = time .before .before .before .before .before .before in
     let s = way .before .before .before .before .args .self in
     let tight = line .is-sound2 .ensures .1 (not-false _ (c .before .before .before .if6 .left)) in
-    no _ _ (unsound-counts (packedIn s) (keptIn s) (viewOf s) _ (packed-length (s .line) tight)
+    no _ _ (unsound-counts engine s _ (packed-length (s .line) tight)
     (sym (c .before .are-counts-sound .ensures) ∙ not-true _ (c .if7 .taken)))
 
 is-ledger-sound-requires : tie.Need-is-ledger-sound-requires
@@ -116,7 +116,7 @@ returns-8 c =
     let lasting = sym (last .is-last-sound .ensures) ∙ not-false _ (line .before .before .if5 .left) in
     let lined = sym (line .is-sound2 .ensures .0) ∙ not-false _ (counts .before .before .if6 .left) in
     let counted = sym (counts .are-counts-sound .ensures) ∙ not-false _ (c .before .before .if7 .left) in
-    let same = by-ledger (packedIn g) (keptIn g) (viewOf g) _ (packed-length (g .line) tight) (live .if1 .left) old-or-new
+    let same = by-ledger engine g _ (packed-length (g .line) tight) (live .if1 .left) old-or-new
     steered timely lasting lined counted in (
       c .is-ledger-sound .ensures ∙ sym same,
       λ z. laid-out g tight

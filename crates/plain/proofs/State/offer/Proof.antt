@@ -9,7 +9,7 @@ use Rattle.model.specs.Gate.{numberChecks, ownChecks}
 use Rattle.checks.specs.Checks.{Entered}
 use Rattle.checks.proofs.Engine.{sound-view}
 use Rattle.checks.proofs.Entry.{own-refused, refreshed-sound}
-use Rattle.checks.proofs.Offering.{offer-own, offer-room, offer-priority, offer-taken}
+use Rattle.checks.proofs.Offering.{own-first, then-rest, offer-priority, offer-taken}
 use Rattle.plain.specs.Layout.{viewOf, soundState, callOn}
 use Rattle.plain.proofs.Views.{engine, given-of}
 use Rattle.plain.proofs.Doing.{room-at}
@@ -36,7 +36,7 @@ room : (c : tie.After-room-refusal) → let s = c .before .before .before .befor
 room c =
     let a = c .before in
     let s = a .before .before .before .before .before in
-    offer-room (viewOf (s .args .self)) (s .args .stamp) (s .args .o) (allowed (a .before))
+    then-rest (s .args .self .profile) (s .args .o) _ (allowed (a .before))
     ∙ sym (room-at (a .refresh .result) (refreshed (viewOf (s .args .self)) (s .args .stamp)) (s .args .o .priority)
     (a .refresh .ensures))
     ∙ sym (c .room-refusal .ensures)
@@ -65,10 +65,9 @@ unfolding callOn soundState
 returns-2 c =
     let numbers = c .before .before in
     let s = numbers .before .before .before in
-    let own = offer-own (viewOf (s .args .self)) (s .args .stamp) (s .args .o) _ (sym (numbers .offer-refusal .ensures))
-    (c .before .if2 .taken) in
     c .refused2 .ensures
-    ∙ own-refused engine (s .args .self) (offer (s .args .stamp) (s .args .o)) (enters (numbers .before)) _ own
+    ∙ own-refused engine (s .args .self) (offer (s .args .stamp) (s .args .o)) (enters (numbers .before)) _
+    (own-first (s .args .self .profile) (s .args .o) _ _ (sym (numbers .offer-refusal .ensures)) (c .before .if2 .taken))
     (c .before .if2 .taken)
 
 refresh-requires : tie.Need-refresh-requires

@@ -3,15 +3,17 @@ use mathlib.Core.Path.{_≡_, sym, _∙_}
 use native.Mathlib.Omega.{arith}
 use Rattle.model.specs.Packets.{chosen}
 use Rattle.model.specs.Calls.{poll}
-use Rattle.model.specs.Effects.{refreshed}
-use Rattle.line.specs.Line.{Listed, without, picked}
+use Rattle.model.specs.Effects.{polled}
+use Rattle.ledger.proofs.Settling.{list-length}
+use Rattle.line.specs.Line.{without, picked}
+use Rattle.line.specs.Layout.{items}
 use Rattle.checks.specs.Checks.{Entered}
-use Rattle.checks.proofs.Engine.{sound-view}
+use Rattle.checks.proofs.Engine.{laid, sound-view}
 use Rattle.checks.proofs.Entry.{refreshed-sound}
-use Rattle.checks.proofs.Polling.{idles, closes, sends, room-left}
+use Rattle.checks.proofs.Polling.{idles, closes, sends, room-left, is-call, poll-keeps}
 use Rattle.plain.specs.Layout.{viewOf, soundState, Given, callOn}
-use Rattle.plain.proofs.Views.{engine, given-of}
-use Rattle.plain.proofs.Polling.{picks-none, picks-at, ledger-len}
+use Rattle.plain.proofs.Views.{engine, given-of, known}
+use Rattle.plain.proofs.Polling.{picks-none, picks-at}
 use Rattle.plain.proofs.Entry.{entered, entry-refused}
 use borrow.Author.Needs.{needs}
 use Rattle.plain.proofs.State.poll.Statement.{statement}
@@ -24,22 +26,26 @@ enters c =
     entered (c .before .before .args .self) (c .before .before .args .stamp) (sym (c .before .refusal .ensures .0) ∙ c .if1 .left)
 
 -- the expired are gone
-abbrev then : tie.After-refresh → Listed
-then c = let s = c .before .before .before in refreshed (viewOf (s .args .self)) (s .args .stamp)
-
-then-given : (c : tie.After-refresh) → Given (c .refresh .result)
+then : (c : tie.After-refresh) → Given (c .refresh .result)
 unfolding soundState
-then-given c =
+then c =
     let s = c .before .before .before in
     given-of _ _ (c .refresh .ensures) (refreshed-sound engine (s .args .self) (s .args .stamp) (enters (c .before)))
 
+-- its poll is the call
+is-polled : (c : tie.After-refresh) → let s = c .before .before .before in
+    laid engine (polled (viewOf (c .refresh .result)) (picked (items (c .refresh .result .line))))
+    ≡ callOn (s .args .self) (poll (s .args .stamp))
+unfolding callOn soundState
+is-polled c =
+    let s = c .before .before .before in
+    is-call engine (s .args .self) (c .refresh .result) (s .args .stamp) (enters (c .before)) (c .refresh .ensures)
+
 -- a packet is picked
-picks : (c : tie.After-pick)
-    → picked (then (c .before .before .before) .waiting)
-    ≡ chosen (c .pick .result) (without (c .pick .result .priority) (then (c .before .before .before) .waiting))
+picks : (c : tie.After-pick) → let l = c .before .before .before .refresh .result .line in
+    picked (items l) ≡ chosen (c .pick .result) (without (c .pick .result .priority) (items l))
 picks c =
-    let a = c .before .before .before in
-    picks-at (a .refresh .result) (then a) (a .refresh .ensures) (c .pick .result) (c .before .if2 .left) (c .pick .ensures)
+    picks-at _ (known _ (then (c .before .before .before)) .tight) (c .pick .result) (c .before .if2 .left) (c .pick .ensures)
 
 refusal-requires : tie.Need-refusal-requires
 refusal-requires c κs = search needs
@@ -58,27 +64,22 @@ unfolding soundState
 refresh-requires c κs = (c .before .refusal .ensures .1 (c .if1 .left), sound-view engine _ (enters c .is-sound))
 
 returns-2 : tie.Need-returns-2
-unfolding callOn soundState
 returns-2 c =
     let a = c .before .before in
-    let s = a .before .before .before in
-    idles engine (s .args .self) (a .refresh .result) (s .args .stamp) (enters (a .before)) (a .refresh .ensures)
-    (picks-none _ _ (a .refresh .ensures) (c .if2 .taken))
+    idles engine (a .refresh .result) (then a .0) (then a .1) (picks-none _ (known _ (then a) .tight) (c .if2 .taken)) ∙ is-polled a
 
 pick-requires : tie.Need-pick-requires
 pick-requires c κs = search needs
 
 left-for-requires : tie.Need-left-for-requires
-left-for-requires c κs = then-given (c .before .before .before)
+left-for-requires c κs = then (c .before .before .before)
 
 returns-3 : tie.Need-returns-3
-unfolding callOn soundState
 returns-3 c =
     let b = c .before .before in
     let a = b .before .before .before in
-    let s = a .before .before .before in
-    closes engine (s .args .self) (a .refresh .result) (s .args .stamp) (enters (a .before)) (a .refresh .ensures) _ (without _)
-    (picks b) _ (c .before .left-for .ensures) (c .if3 .taken)
+    closes engine (a .refresh .result) (then a .0) (then a .1) _ _ (picks b) _ (c .before .left-for .ensures) (c .if3 .taken)
+    ∙ is-polled a
 
 admit-requires : tie.Need-admit-requires
 unfolding soundState
@@ -86,19 +87,18 @@ admit-requires c κs =
     let b = c .before .before in
     let a = b .before .before .before in
     let s = a .before .before .before in
-    let room =
-    room-left engine (s .args .self) (a .refresh .result) (s .args .stamp) (enters (a .before)) (a .refresh .ensures) _
-    (without _) (picks b) _ (c .before .left-for .ensures) (c .if3 .left) in
-    (then-given a, omega (arith, room, ledger-len (a .refresh .result) (then a) (a .refresh .ensures)))
+    let kept = poll-keeps engine (s .args .self) (a .refresh .result) (s .args .stamp) (enters (a .before)) (a .refresh .ensures) in
+    let room = room-left engine (a .refresh .result) (then a .0) (then a .1) _ _ (picks b) _ (c .before .left-for .ensures)
+    (c .if3 .left) kept in
+    (then a, omega (arith, room, list-length _ _ (known _ (then a) .ledger-tight)))
 
 returns-4 : tie.Need-returns-4
-unfolding callOn soundState
 returns-4 c =
     let b = c .before .before .before in
     let a = b .before .before .before in
-    let s = a .before .before .before in
-    sends engine (s .args .self) (a .refresh .result) (s .args .stamp) (enters (a .before)) (a .refresh .ensures) _ (without _)
-    (picks b) _ (c .before .before .left-for .ensures) (c .before .if3 .left) (c .admit .result) (c .admit .ensures)
+    sends engine (a .refresh .result) (then a .0) (then a .1) _ _ (picks b) _ (c .before .before .left-for .ensures)
+    (c .before .if3 .left) (c .admit .result) (c .admit .ensures)
+    ∙ is-polled a
 
 pub poll-spec : {M : Type 1} → statement M
 poll-spec =
