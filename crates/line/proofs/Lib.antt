@@ -4,6 +4,7 @@ pub mod Alike
 pub mod Parts
 pub mod Rules
 pub mod Agree
+pub mod Again
 pub mod Known
 pub mod Packing
 pub mod Steps

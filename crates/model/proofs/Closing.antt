@@ -4,27 +4,28 @@ use Prim.Native.Nat.{ℕ, _+_, _-_, _≤_, _<_, max}
 use mathlib.Core.Path.{_≡_, refl, ap, ap₂, sym, _∙_}
 use mathlib.Core.Bool.{Bool, true, false, cond, not, _&&_}
 use mathlib.Core.List.{List}
+use native.Mathlib.Nat.{add-assoc}
 use native.Mathlib.Omega.{arith}
 use lib.Dec.{leb, ltb, eqb}
 use borrow.Author.Tests.{leb-true, eqb-false, le-leb, lt-leb, not-false}
 use Rattle.rules.proofs.Cases.{on-cond, on-test, both, clash}
-use Rattle.rules.proofs.Tests.{tested}
+use Rattle.rules.proofs.Tests.{tested, all-true}
 use Rattle.rules.proofs.Profiles.{ontime-le}
 use Rattle.model.specs.declared.Packet.{Packet}
 use Rattle.model.specs.declared.Admission.{Admission}
 use Rattle.model.specs.declared.Answer.the-variants.{Closed}
-use Rattle.model.specs.Packets.{Chosen, nothing, chosen}
-use Rattle.model.specs.Fours.{Four}
-use Rattle.model.specs.Queues.{inQueues, choice}
+use Rattle.model.specs.Packets.{Chosen, nothing, chosen, Holding}
+use Rattle.model.specs.Queues.{inQueues}
 use Rattle.model.specs.Calls.{poll, isSent}
 use Rattle.model.specs.Ledger.{mostAir, young, airAllows, allowedFrom}
-use Rattle.model.specs.State.{View}
+use Rattle.model.specs.State.{Status, View, statusRules, sound}
 use Rattle.model.specs.Effects.{Result, refreshed, closedFor, sinceLast, closed, waitLeft, airLeft, maySend, polled, effect}
-use Rattle.model.specs.Gate.{checks, waited, ClosedIsLeast}
+use Rattle.model.specs.Gate.{checks, call, waited, ClosedIsLeast}
 use Rattle.model.proofs.Aging.{AllNoted, noted-later, all-young, young-young, allowed-from}
 use Rattle.model.proofs.Refusals.{on-call}
-use Rattle.model.proofs.SoundQueues.{Queued, OfChoice}
-use Rattle.model.proofs.Sound.{SoundView, test-view, refreshed-sound, chosen-queued, passed-time}
+use Rattle.model.proofs.Sound.{SoundView, test-last}
+use Rattle.model.proofs.SoundLedger.{test-ledger}
+use Rattle.model.proofs.Staying.{Staying, queues-stay}
 
 -- tests of numbers
 leb-less : (a b d : ℕ) → leb a (b + d) ≡ leb (a - b) d
@@ -39,7 +40,7 @@ leb-max a b d =
     (λ f. sym (lt-leb (max a b) d (omega tested))))
     (λ e. sym (lt-leb (max a b) d (omega tested)))
 
-is-sent : (u : Bool) (x y : Result inQueues) → isSent (x .answer) ≡ true → isSent (y .answer) ≡ false
+is-sent : {h : Holding} (u : Bool) (x y : Result h) → isSent (x .answer) ≡ true → isSent (y .answer) ≡ false
     → isSent (cond u x y .answer) ≡ u
 is-sent true x y a b = a
 is-sent false x y a b = b
@@ -57,11 +58,38 @@ same-tests : (a b : ℕ) → ((d : ℕ) → leb a d ≡ leb b d) → a ≡ b
 same-tests a b f =
     omega (arith, leb-true b a (sym (f a) ∙ le-leb a a (omega arith)), leb-true a b (f b ∙ le-leb b b (omega arith)))
 
-module _ (v : View) (h : SoundView v) (d : ℕ) where
-  wait-over : not (closed (waited v d)) ≡ leb (waitLeft v) d
+-- what is left until a packet may go: CLOSED's number
+abbrev pub leftOf : {h : Holding} → Status h → Packet → ℕ
+leftOf v p = max (waitLeft v) (airLeft v p)
+
+-- what a sound state says of times, whatever way packets wait
+pub record InTime {h : Holding} (v : Status h) : Type 0 where
+  pub past : v .last .at ≤ v .clock .time
+  pub noted : AllNoted (v .control .profile) (v .clock .time) 0 (v .ledger)
+
+pub in-time : {h : Holding} (v : Status h) → sound v ≡ true → InTime v
+unfolding sound
+in-time v e =
+    let r = all-true (statusRules v) e in
+    record {
+      past = test-last (v .control .profile) (v .clock .time) (v .last) (r .1 .1 .1 .1 .0) .past;
+      noted =
+          test-ledger (v .control .profile) (v .clock .time) (v .last) (v .ledger) (r .1 .1 .1 .1 .1 .1 .1 .0) .noted;
+    }
+
+module _ {h : Holding} (v : Status h) (t : InTime v) where
+  -- and still does later
+  in-time-later : (d : ℕ) → InTime (waited v d)
+  in-time-later d =
+      record {
+        past = omega (arith, t .past);
+        noted = noted-later (v .control .profile) (v .clock .time) (v .clock .time + d) 0 (v .ledger) (omega arith) (t .noted);
+      }
+
+  wait-over : (d : ℕ) → not (closed (waited v d)) ≡ leb (waitLeft v) d
   unfolding closed
-  wait-over =
-      let past = h .last .past in
+  wait-over d =
+      let past = t .past in
       on-test (λ u. not (u && ltb (sinceLast (waited v d)) (closedFor v)) ≡ leb
       (cond (u && ltb (sinceLast v) (closedFor v)) some 0) d)
       (eqb (v .last .admitted) 1)
@@ -76,27 +104,32 @@ module _ (v : View) (h : SoundView v) (d : ℕ) where
       some : ℕ
       some = closedFor v - sinceLast v
 
-  enough-aged : (p : Packet) → p .ontime ≤ mostAir → airAllows (p .ontime) (waited v d .ledger) ≡ leb (airLeft v p) d
-  enough-aged p o =
+  enough-aged : (p : Packet) (d : ℕ) → p .ontime ≤ mostAir → airAllows (p .ontime) (waited v d .ledger) ≡ leb (airLeft v p) d
+  enough-aged p d o =
       allowed-from (p .ontime) (v .control .profile) (v .clock .time) 0 (v .clock .time) (v .clock .time + d) (v .ledger) o
-      (h .ledger .noted) (omega arith)
+      (t .noted) (omega arith)
       ∙ leb-less (allowedFrom (p .ontime) (v .clock .time) (v .ledger)) (v .clock .time) d
 
-  sends-after : (p : Packet) → p .ontime ≤ mostAir → maySend (waited v d) p ≡ leb (max (waitLeft v) (airLeft v p)) d
-  sends-after p o = ap₂ (λ a b. a && b) wait-over (enough-aged p o) ∙ leb-max (waitLeft v) (airLeft v p) d
+  -- a packet may go d µs later exactly if d is at least what is left
+  pub sends-after : (p : Packet) (d : ℕ) → p .ontime ≤ mostAir → maySend (waited v d) p ≡ leb (leftOf v p) d
+  sends-after p d o = ap₂ (λ a b. a && b) (wait-over d) (enough-aged p d o) ∙ leb-max (waitLeft v) (airLeft v p) d
 
-  abbrev Least : Chosen (Four Packet) → ℕ → Result inQueues → Type 0
-  Least c n o = o .answer ≡ Closed n → isSent (polled (waited v d) c .answer) ≡ leb n d
+-- to wait twice is to wait once
+twice-waited : {h : Holding} (v : Status h) (p : Packet) (d e : ℕ)
+    → maySend (waited (waited v d) e) p ≡ maySend (waited v (d + e)) p
+unfolding closed
+twice-waited v p d e =
+    rw (young-young (v .clock .time + d) (v .clock .time + d + e) (v .ledger) (omega arith), add-assoc (v .clock .time) d e) refl
 
-  least : (c : Chosen (Four Packet)) (n : ℕ) → OfChoice (Queued (v .control .profile) (v .clock .time)) c → Least c n (polled v c)
-  least nothing n q = λ r. clash (cc)
-  least (chosen p left) n q =
-      on-cond (Least (chosen p left) n) (maySend v p) (λ u r. clash (cc))
-      (λ u r.
-      let same : max (waitLeft v) (airLeft v p) ≡ n = cc in
-      is-sent (maySend (waited v d) p) _ _ refl refl
-      ∙ sends-after p (omega (arith, ontime-le (v .control .profile) (p .ontime) (q .2 .order .0 .ontime)))
-      ∙ ap (λ k. leb k d) same)
+-- what is left d µs later is d less
+pub left-after : {h : Holding} (v : Status h) (p : Packet) (d : ℕ) → InTime v → p .ontime ≤ mostAir
+    → leftOf (waited v d) p ≡ leftOf v p - d
+left-after v p d t o =
+    same-tests (leftOf (waited v d) p) (leftOf v p - d)
+    (λ e. sym (sends-after (waited v d) (in-time-later v t d) p e o)
+    ∙ twice-waited v p d e
+    ∙ sends-after v t p (d + e) o
+    ∙ leb-less (leftOf v p) d e)
 
 -- a packet may go exactly if nothing is left of either wait; and what is left of the second can be told before anything is
 -- dropped
@@ -133,14 +166,63 @@ air-same ontime profile then now l o h s =
     ∙ allowed-from ontime profile then 0 now (now + d) l o h (omega arith)
     ∙ leb-less (allowedFrom ontime now l) now d)
 
-pub closed-is-least : ClosedIsLeast inQueues
+-- a poll that was CLOSED: the state was sound and is refreshed, a packet goes next, and the number is what is left for it
+pub record ClosedPoll {h : Holding} (v : Status h) (stamp n : ℕ) : Type 0 where
+  pub packet : Packet
+  pub others : h .Held
+  pub goes-next : h .next (refreshed v stamp .waiting) ≡ chosen packet others
+  pub left : leftOf (refreshed v stamp) packet ≡ n
+  pub after : call v (poll stamp) .view ≡ refreshed v stamp
+  pub was-sound : sound v ≡ true
+
+abbrev Shut : {h : Holding} → Status h → (stamp n : ℕ) → Chosen (h .Held) → Result h → Type 0
+Shut {h} v stamp n c o =
+    o .answer ≡ Closed n → (p : Packet) × (others : h .Held)
+    × (c ≡ chosen p others) × (leftOf (refreshed v stamp) p ≡ n) × (o .view ≡ refreshed v stamp)
+
+shut : {h : Holding} (v : Status h) (stamp n : ℕ) (c : Chosen (h .Held)) → Shut v stamp n c (polled (refreshed v stamp) c)
+shut v stamp n nothing = λ r. clash (cc)
+shut v stamp n (chosen p others) =
+    on-cond (Shut v stamp n (chosen p others)) (maySend (refreshed v stamp) p) (λ u r. clash (cc))
+    (λ u r. (p, others, refl, cc, refl))
+
+pub closed-poll : {h : Holding} (v : Status h) (stamp n : ℕ) → call v (poll stamp) .answer ≡ Closed n → ClosedPoll v stamp n
 unfolding effect checks
-closed-is-least v stamp n r d =
-    on-call (λ (o : Result inQueues). o .answer ≡ Closed n → isSent
-    (polled (waited (refreshed v stamp) d) (choice (refreshed v stamp .waiting)) .answer) ≡ leb n d)
-    v (poll stamp)
-    (λ k.
-    let h = refreshed-sound v stamp (passed-time v (poll stamp) k) (test-view v (not-false _ (k .0))) in
-    least (refreshed v stamp) h d (choice (refreshed v stamp .waiting)) n (chosen-queued (refreshed v stamp) h))
-    (λ k s. clash (cc))
-    r
+closed-poll {h} v stamp n r =
+    let k = on-call (λ (o : Result h). o .answer ≡ Closed n → Shut v stamp n (h .next (refreshed v stamp .waiting)) o
+    × (sound v ≡ true)) v (poll stamp)
+    (λ k s. (shut v stamp n (h .next (refreshed v stamp .waiting)), not-false _ (k .0)))
+    (λ m s. clash (cc))
+    r in
+    let f = k .0 r in
+    record { packet = f .0; others = f .1; goes-next = f .2; left = f .3; after = f .4; was-sound = k .1 }
+
+module _ {h : Holding} (laws : Staying h) (v : Status h) (stamp n : ℕ) (r : call v (poll stamp) .answer ≡ Closed n) where
+  abbrev then : Status h
+  then = refreshed v stamp
+
+  abbrev shutPoll : ClosedPoll v stamp n
+  shutPoll = closed-poll v stamp n r
+
+  pub still-sound : sound then ≡ true
+  still-sound = ap sound (sym (shutPoll .after)) ∙ laws .keeps v (poll stamp) (shutPoll .was-sound)
+
+  pub small : shutPoll .packet .ontime ≤ mostAir
+  small =
+      let k = shutPoll in
+      omega (
+        arith,
+        ontime-le (v .control .profile) (k .packet .ontime)
+            (laws .allowed then (k .packet) (k .others) still-sound (k .goes-next)),
+      )
+
+  pub is-least : (d : ℕ) → isSent (polled (waited then d) (h .next (then .waiting)) .answer) ≡ leb n d
+  is-least d =
+      let k = shutPoll in
+      rw (k .goes-next)
+      (is-sent (maySend (waited then d) (k .packet)) _ _ refl refl
+      ∙ sends-after then (in-time then still-sound) (k .packet) d small
+      ∙ ap (λ m. leb m d) (k .left))
+
+pub closed-is-least : ClosedIsLeast inQueues
+closed-is-least = is-least queues-stay

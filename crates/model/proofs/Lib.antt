@@ -17,7 +17,9 @@ pub mod Sound
 pub mod Gaps
 pub mod Invariant
 pub mod KeepsSound
+pub mod Staying
 pub mod Closing
+pub mod Again
 pub mod Runs
 pub mod Demand3
 pub mod DeliveryLines

@@ -1,14 +1,14 @@
 -- Demand 3, the delivery and the refusals' laws in the papers' own numbers, from their proofs: a statement of specs/ that says
 -- less fails here. Then what they are stated with, worked by hand: each side computes to the other.
-use Prim.Native.Nat.{ℕ, suc, _+_, _-_, _*_, _≤_, _<_}
+use Prim.Native.Nat.{ℕ, suc, _+_, _-_, _*_, _%_, _≤_, _<_}
 use mathlib.Core.Path.{_≡_, refl, ap, sym, _∙_, subst}
 use mathlib.Core.Logic.{_⊎_, inl, inr}
-use mathlib.Core.Bool.{true, false}
+use mathlib.Core.Bool.{true, false, cond}
 use mathlib.Core.List.{List, [], _∷_, _++_, map}
 use native.Mathlib.Omega.{arith}
-use lib.Dec.{eqb}
+use lib.Dec.{leb, eqb}
 use lib.ListN.{length}
-use borrow.Author.Tests.{not-false, eqb-true, le-leb, lt-leb}
+use borrow.Author.Tests.{not-false, eqb-true, le-leb, lt-leb, lt-ltb}
 use Rattle.rules.specs.Profiles.{within, isProfile}
 use Rattle.rules.proofs.Profiles.{by-profile}
 use Rattle.rules.specs.Refusals.{firstOf, FirstHolds}
@@ -22,7 +22,7 @@ use Rattle.model.specs.declared.Counts.{Counts}
 use Rattle.model.specs.declared.Offer.{Offer}
 use Rattle.model.specs.declared.Answer.{Answer}
 use Rattle.model.specs.declared.Answer.the-variants.{Ready, Taken, Sent, Idle, Closed, Refused}
-use Rattle.model.specs.Packets.{Holding}
+use Rattle.model.specs.Packets.{unexpired, chosen, Holding}
 use Rattle.model.specs.Queues.{inQueues, choice}
 use Rattle.model.specs.Fours.{Four, four}
 use Rattle.model.specs.Calls.{Call, words, count, offer, poll, Making, isSent, isRefused}
@@ -39,12 +39,13 @@ use Rattle.model.proofs.Refusals.{refusals-change-nothing, refusals-are
 use Rattle.model.proofs.Sound.{forty-are-enough}
 use Rattle.model.proofs.KeepsSound.{calls-keep-sound}
 use Rattle.model.proofs.Closing.{closed-is-least}
+use Rattle.model.proofs.Again.{closed-asked-again}
 use Rattle.model.proofs.Runs.{runs-are-their-parts}
 use Rattle.model.proofs.Demand3.{demand3, old-way-displaces-nothing}
 use Rattle.model.proofs.DeliveryLines.{all-of}
 use Rattle.model.proofs.Delivery.{delivery}
 use Rattle.model.proofs.Computing.{of-runs}
-use Rattle.model.proofs.Worked.{packet, queues, offering}
+use Rattle.model.proofs.Worked.{clockAt, lastAt, counted, steered, packet, queues, state, offering}
 
 -- "a refused call (make apart) changes nothing"; "exactly if"; however packets wait
 refused-unchanged : {h : Holding} (v : Status h) (c : Call) → isRefused (call v c .answer) ≡ true → call v c .view ≡ v
@@ -66,6 +67,43 @@ goes-when-told v stamp n d r h = closed-is-least v stamp n r d ∙ le-leb n d h
 not-before : (v : View) (stamp n d : ℕ) → call v (poll stamp) .answer ≡ Closed n → d < n
     → isSent (polled (waited (refreshed v stamp) d) (choice (refreshed v stamp .waiting)) .answer) ≡ false
 not-before v stamp n d r h = closed-is-least v stamp n r d ∙ lt-leb n d h
+
+-- "Ask again so many µs later, and the packet goes; ask a µs sooner, and it doesn't" (the label): of a poll that is CLOSED with n
+-- and of the next call, a poll whose stamp is d µs later; p is the packet that goes next
+module _ (v : View) (stamp n d : ℕ) (p : Packet) (others : Four Packet) (shut : call v (poll stamp) .answer ≡ Closed n) where
+  abbrev then : View
+  then = call v (poll stamp) .view
+
+  abbrev secondAnswer : Answer
+  secondAnswer = call then (poll ((stamp + d) % 4294967296)) .answer
+
+  module _ (next : choice (then .waiting) ≡ chosen p others) (low : stamp < 4294967296) (forward : d < 2147483648)
+      (not-past : then .clock .time + d ≤ 1000000000000000) (alive : then .clock .time + d - p .arrival < p .lifetime) where
+    second-answer : secondAnswer ≡ cond (leb n d) (Sent p) (Closed (n - d))
+    second-answer =
+        let a = closed-asked-again v stamp n low shut in
+        let same : a .packet ≡ p = cc (a .goes-next) in
+        subst (λ (q : Packet).
+        unexpired (then .clock .time + d) q ≡ true → secondAnswer ≡ cond (leb n d) (Sent q) (Closed (n - d))) same
+        (a .again d forward not-past) (lt-ltb _ _ alive)
+
+    goes-when-asked-again : n ≤ d → secondAnswer ≡ Sent p
+    goes-when-asked-again h = second-answer ∙ rw (le-leb n d h)
+
+    not-when-asked-before : d < n → secondAnswer ≡ Closed (n - d)
+    not-when-asked-before h = second-answer ∙ rw (lt-leb n d h)
+
+-- there is such a poll: a gate of profile 1 is closed for 101,000 µs after a packet of 1,000, and meanwhile stamps pass 2^32
+abbrev shutOnce : View
+shutOnce =
+    state (clockAt 0 4294967295) (steered 1 0 600000 0 0 0) (lastAt 0 1000 1) (counted 1 0 0)
+    (queues (packet 1 0 1 60000000 0 ∷ []) [] [] [])
+
+asked-once-more : call (call shutOnce (poll 4294967295) .view) (poll 100999) .answer ≡ Sent (packet 1 0 1 60000000 0)
+unfolding of-runs
+asked-once-more =
+    goes-when-asked-again shutOnce 4294967295 101000 101000 (packet 1 0 1 60000000 0) (queues [] [] [] []) refl refl
+    (omega arith) (omega arith) (omega arith) (omega arith) (omega arith)
 
 -- "the top packet of the lowest-numbered non-empty column": the first of the columns one behind the other
 abbrev joined : Four Entry → List Entry

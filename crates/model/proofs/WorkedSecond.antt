@@ -1,9 +1,10 @@
 -- Thirty milliseconds in any second, worked on small states: each side computes to the other.
-use Prim.Native.Nat.{ℕ, zero, suc, _+_, _*_}
+use Prim.Native.Nat.{ℕ, zero, suc, _+_, _-_, _*_, _%_}
 use mathlib.Core.Path.{_≡_, refl}
 use mathlib.Core.Bool.{Bool, true, false}
 use mathlib.Core.List.{List, [], _∷_, _++_, map}
 use lib.ListN.{length, drop}
+use Rattle.rules.specs.Profiles.{profiles, byProfile}
 use Rattle.model.specs.declared.Packet.{Packet}
 use Rattle.model.specs.declared.Admission.{Admission}
 use Rattle.model.specs.declared.Last.{Last}
@@ -12,10 +13,11 @@ use Rattle.model.specs.declared.Answer.the-variants.{Taken, Sent, Idle, 
 use Rattle.model.specs.Calls.{Call, count, poll}
 use Rattle.model.specs.Ledger.{airOf}
 use Rattle.model.specs.State.{View, withClock, withControl, withLast, withLedger, sound}
-use Rattle.model.specs.Gate.{call}
+use Rattle.model.specs.Gate.{make, call}
 use Rattle.model.specs.Journal.{airIn, lastSecond}
 use Rattle.model.proofs.Computing.{of-runs}
-use Rattle.model.proofs.Worked.{clockAt, lastAt, counted, steered, packet, queues, state, offering, answersOf, after}
+use Rattle.model.proofs.Worked.{clockAt, lastAt, counted, steered, packet, queues, state, making, offering}
+use Rattle.model.proofs.Worked.{answersOf, after}
 
 abbrev admission : (at ontime : ℕ) → Admission
 admission at ontime = record { at = at; ontime = ontime }
@@ -129,6 +131,67 @@ the-air-is-longer = refl
 the-wait-is-longer : call (withControl (waiting 600000 1) (steered 3 0 600000 0 0 0)) (poll 0) .answer ≡ Closed 850000
 unfolding of-runs waiting
 the-wait-is-longer = refl
+
+-- "Ask again so many µs later, and the packet goes; ask a µs sooner, and it doesn't" (the label): what a second poll says, d µs
+-- behind one at stamp 0. Here the air is the longer, then the wait; at an end the clock goes back, at the other it ends
+abbrev asked : (v : View) (stamp : ℕ) → List ℕ → List (List Answer)
+asked v stamp ds = map (λ (d : ℕ). answersOf v (poll stamp ∷ poll ((stamp + d) % 4294967296) ∷ [])) ds
+
+asked-for-the-air :
+    asked (waiting 450000 1) 0 (0 ∷ 1 ∷ 649999 ∷ 650000 ∷ 59999999 ∷ [])
+    ≡ (Closed 650000 ∷ Closed 650000 ∷ [])
+    ∷ (Closed 650000 ∷ Closed 649999 ∷ [])
+    ∷ (Closed 650000 ∷ Closed 1 ∷ [])
+    ∷ (Closed 650000 ∷ Sent (packet 1 0 1 60000000 450000) ∷ [])
+    ∷ (Closed 650000 ∷ Sent (packet 1 0 1 60000000 450000) ∷ [])
+    ∷ []
+unfolding answersOf waiting
+asked-for-the-air = refl
+
+asked-for-the-wait :
+    asked (withControl (waiting 600000 1) (steered 3 0 600000 0 0 0)) 0 (849999 ∷ 850000 ∷ [])
+    ≡ (Closed 850000 ∷ Closed 1 ∷ []) ∷ (Closed 850000 ∷ Sent (packet 1 0 1 60000000 450000) ∷ []) ∷ []
+unfolding answersOf waiting
+asked-for-the-wait = refl
+
+-- in every profile: a packet of 500 µs has gone, one more is offered, and the stamps pass 2^32 between the two polls
+tells : (profile : ℕ) → ℕ
+tells profile = byProfile profile 100500 50500 833334 25500 60500
+
+closedOnce : (profile : ℕ) → View
+unfolding of-runs
+closedOnce profile =
+    after (make (making profile 4294967200) .view)
+    (offering 4294967200 1 0 500 60000000 ∷ poll 4294967200 ∷ offering 4294967200 2 0 500 60000000 ∷ [])
+
+asked-in-all :
+    map (λ (n : ℕ). asked (closedOnce n) 4294967200 ((tells n - 1) ∷ tells n ∷ [])) profiles
+    ≡ map (λ (n : ℕ).
+    (Closed (tells n) ∷ Closed 1 ∷ []) ∷ (Closed (tells n) ∷ Sent (packet 2 0 500 60000000 0) ∷ []) ∷ []) profiles
+unfolding answersOf after closedOnce tells
+asked-in-all = refl
+
+-- what is not meant: the packet has expired by then, and another is the next, if there is one; the clock goes back; it has ended
+dying : (time : ℕ) → List Packet → View
+dying time behind =
+    state (clockAt time 0) (steered 1 0 600000 0 0 0) (lastAt time 1000 1) (counted (1 + length behind) 0 0)
+    (queues (packet 1 0 1 50000 time ∷ []) behind [] [])
+
+asked-too-late :
+    asked (dying 0 []) 0 (49999 ∷ 50000 ∷ 101000 ∷ 2147483648 ∷ [])
+    ++ asked (dying 0 (packet 2 1 1 60000000 0 ∷ [])) 0 (50000 ∷ 101000 ∷ [])
+    ++ asked (dying 999999999990000 []) 0 (10000 ∷ 10001 ∷ [])
+    ≡ (Closed 101000 ∷ Closed 51001 ∷ [])
+    ∷ (Closed 101000 ∷ Idle ∷ [])
+    ∷ (Closed 101000 ∷ Idle ∷ [])
+    ∷ (Closed 101000 ∷ Refused 2 ∷ [])
+    ∷ (Closed 101000 ∷ Closed 51000 ∷ [])
+    ∷ (Closed 101000 ∷ Sent (packet 2 1 1 60000000 0) ∷ [])
+    ∷ (Closed 101000 ∷ Closed 91000 ∷ [])
+    ∷ (Closed 101000 ∷ Refused 3 ∷ [])
+    ∷ []
+unfolding answersOf dying
+asked-too-late = refl
 
 -- "the oldest of the lowest-numbered": where that does not fit, a shorter one behind it does not go, though by itself it would
 behind : List Packet → View

@@ -1,20 +1,22 @@
 -- The gate: the first check that holds is the answer, else the call's effect (document 01, "Refusal
 -- numbers").
-use Prim.Native.Nat.{ℕ, _+_, _≤_}
+use Prim.Native.Nat.{ℕ, _+_, _-_, _%_, _≤_, _<_}
 use mathlib.Core.Path.{_≡_}
 use mathlib.Core.Bool.{Bool, true, not, cond, _&&_}
 use mathlib.Core.List.{List, [], _∷_, _++_}
 use lib.Dec.{ltb, leb, eqb}
 use lib.ListN.{length}
 use Rattle.rules.specs.Profiles.{isProfile, lastPriority, ontimeAllowed, lifetimeAllowed, room, mostOffers}
-use Rattle.rules.specs.Clock.{stepOf, goesBack, passesEnd}
+use Rattle.rules.specs.Clock.{stamps, stepOf, goesBack, endOfTime, passesEnd}
 use Rattle.rules.specs.Samples.{goodWords, badCount}
 use Rattle.rules.specs.Refusals.{Check, check, firstOf, FirstHolds}
 use Rattle.machine.specs.Levels.{badList}
 use Rattle.model.specs.declared.Clock.{Clock}
 use Rattle.model.specs.declared.Offer.{Offer}
-use Rattle.model.specs.declared.Answer.the-variants.{Ready, Closed, Refused}
-use Rattle.model.specs.Packets.{Holding}
+use Rattle.model.specs.declared.Packet.{Packet}
+use Rattle.model.specs.declared.Answer.{Answer}
+use Rattle.model.specs.declared.Answer.the-variants.{Ready, Sent, Closed, Refused}
+use Rattle.model.specs.Packets.{unexpired, chosen, Holding}
 use Rattle.model.specs.Queues.{inQueues}
 use Rattle.model.specs.Calls.{Call, words, count, offer, poll, stampOf, Making, isSent, isRefused}
 use Rattle.model.specs.Ledger.{places}
@@ -112,3 +114,23 @@ ClosedIsLeast h =
     (v : Status h) (stamp n : ℕ) → call v (poll stamp) .answer ≡ Closed n
     → (d : ℕ)
     → isSent (polled (waited (refreshed v stamp) d) (h .next (refreshed v stamp .waiting)) .answer) ≡ leb n d
+
+-- "Ask again so many µs later, and the packet goes; ask a µs sooner, and it doesn't" (docs/LABEL.md): a poll
+-- with a stamp was answered CLOSED with n and left v, and ask says what one more answers, by its stamp
+pub record AskedAgain {h : Holding} (v : Status h) (stamp n : ℕ) (ask : (later : ℕ) → Answer) : Type 0 where
+  -- "that packet": the one that goes next
+  pub packet : Packet
+  pub others : h .Held
+  pub goes-next : h .next (v .waiting) ≡ chosen packet others
+  -- d µs later, the clock neither going back nor past its end and the packet not expired by then: it is sent
+  -- exactly if d is at least n, and else CLOSED says what is left of n
+  pub again : (d : ℕ) → d < 2147483648 → v .clock .time + d ≤ endOfTime
+      → unexpired (v .clock .time + d) packet ≡ true
+      → ask ((stamp + d) % stamps) ≡ cond (leb n d) (Sent packet) (Closed (n - d))
+
+-- so it is after every poll that is CLOSED, if the next call is a poll: nothing but time comes between
+abbrev pub ClosedAskedAgain : Holding → Type 0
+ClosedAskedAgain h =
+    (v : Status h) (stamp n : ℕ) → stamp < stamps → call v (poll stamp) .answer ≡ Closed n
+    → AskedAgain (call v (poll stamp) .view) stamp n
+    (λ later. call (call v (poll stamp) .view) (poll later) .answer)

@@ -6,4 +6,5 @@ pub mod Doing
 pub mod Polling
 pub mod Bursts
 pub mod Runs
+pub mod Again
 pub mod Worked

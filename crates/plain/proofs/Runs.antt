@@ -42,7 +42,7 @@ use Rattle.plain.proofs.Views.{engine}
 abbrev Reads : Result inList → Outcome → Type 0
 Reads w o = (viewOf (o .state) ≡ w .view) × (o .answer ≡ w .answer) × (soundState (o .state) ≡ true)
 
-call-reads : (s : State) (c : Call) → soundState s ≡ true → Reads (call (viewOf s) c) (callOn s c)
+pub call-reads : (s : State) (c : Call) → soundState s ≡ true → Reads (call (viewOf s) c) (callOn s c)
 unfolding callOn soundState
 call-reads s c e =
     on-sound-call engine (Reads (call (viewOf s) c)) s c e (λ same. (same, refl, e)) (λ same kept. (same, refl, kept))

@@ -3,14 +3,10 @@
 use Prim.Native.Nat.{ℕ, _+_, _≤_}
 use mathlib.Core.Path.{_≡_, ap, sym, _∙_}
 use mathlib.Core.Bool.{true, _&&_}
-use mathlib.Core.List.{[], _∷_}
 use native.Mathlib.Omega.{arith}
 use lib.ListN.{take}
-use Rattle.model.specs.Calls.{Call}
 use Rattle.model.specs.State.{withLedger, withWaiting, sound}
 use Rattle.model.specs.Effects.{stepped, moved}
-use Rattle.model.specs.Gate.{call}
-use Rattle.model.specs.Claims.{viewAfter}
 use Rattle.ledger.specs.Layout as ledger
 use Rattle.ledger.proofs.Meaning.{AllFitting, read-fitting, young-fitting, sound-fitting, read-timely, packed-tidy}
 use Rattle.ledger.proofs.Meaning.{items-packed as ledger-packed}
@@ -18,8 +14,9 @@ use Rattle.ledger.proofs.Settling.{list-length}
 use Rattle.line.specs.Line.{inList, Listed}
 use Rattle.line.specs.Layout.{places, items, packed, Packed, tidy}
 use Rattle.line.proofs.Packing.{items-packed, packed-length, tidy-packed}
-use Rattle.line.proofs.Rules.{at-most-twenty, picked-ontime}
-use Rattle.line.proofs.Agree.{refreshed-list, sound-lists-agree}
+use Rattle.line.proofs.Rules.{at-most-twenty}
+use Rattle.line.proofs.Agree.{refreshed-list}
+use Rattle.line.proofs.Again.{lists-stay}
 use Rattle.checks.proofs.Groups.{Groups, groups}
 use Rattle.checks.proofs.Engine.{Engine, says}
 use Rattle.plain.specs.declared.State.{State}
@@ -53,10 +50,6 @@ tidy-state v e =
       packed-tidy (v .last .at) (v .ledger) (sound-writable v e) (g .few),
     )
 
-pub keeps-sound : (v : Listed) (c : Call) → sound v ≡ true → sound (call v c .view) ≡ true
-unfolding viewAfter
-keeps-sound v c e = sound-lists-agree v (c ∷ []) e .sound-throughout
-
 -- the plain engine
 abbrev pub engine : Engine inList
 engine =
@@ -70,11 +63,9 @@ engine =
       outcome = outcome;
       tidy-state = tidy-state;
       view-state = λ v e. view-state v (sound-writable v e);
-      keeps = keeps-sound;
+      keeps = lists-stay .keeps;
       refreshes = refreshed-list;
-      allowed =
-          λ v p left e f.
-          picked-ontime (v .control .profile) (v .clock .time) (v .waiting) p left (groups v e .packets) f;
+      allowed = lists-stay .allowed;
     }
 
 -- a state is laid out where its line and its ledger are

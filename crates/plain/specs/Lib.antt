@@ -2,3 +2,4 @@
 pub mod Layout
 pub mod Bursts
 pub mod Runs
+pub mod Again
