@@ -7,6 +7,7 @@ use native.Mathlib.Omega.{arith}
 use lib.ListN.{length}
 use Rattle.rules.specs.Profiles.{mostOffers}
 use Rattle.rules.proofs.Cases.{split}
+use Rattle.machine.specs.declared.Loads.{Loads}
 use Rattle.machine.specs.Levels.{levelsOf}
 use Rattle.machine.specs.Loads.{loadsOf}
 use Rattle.control.specs.Control.{Steerable}
@@ -31,6 +32,18 @@ use Rattle.gate.specs.Layout.{stateWith, stateFrom, rowsIn, viewOf, stat
 use Rattle.gate.specs.Steps.{Settled, headWith, ledgerFor, admissionsIn, stillThere, Advanceable, Advanced}
 use Rattle.gate.specs.Steps.{Clearable, Cleared}
 use Rattle.gate.proofs.Views.{engine, known, given-of}
+
+-- a head and rows, each known by its parts, are a state from those
+pub assembled : {h h′ : Head} {words came air slots above waits : List ℕ} {r : Rows} {l : Ledger} {held : Loads} → h ≡ h′
+    → rows words came ≡ r → ledgerFor h air ≡ l → loadsOf (h .loads) slots ≡ held
+    → stateWith h words came air slots above waits
+    ≡ stateFrom r l held (levelsOf (h′ .levels) (h′ .calm) above waits) (h′ .clock) (h′ .last) (h′ .counts) (h′ .tuning)
+    (h′ .profile) (h′ .oldway) (h′ .live)
+assembled {above = above} {waits = waits} e f g k =
+    λ i.
+    let x = e i in
+    stateFrom (f i) (g i) (k i) (levelsOf (x .levels) (x .calm) above waits) (x .clock) (x .last) (x .counts) (x .tuning)
+    (x .profile) (x .oldway) (x .live)
 
 pub advanced-by : (h : Head) (stamp : ℕ) (air air′ : List ℕ) (c : Clock) (n : ℕ) → c ≡ stepped (h .clock) stamp
     → ledger.ledgerOf n air′ ≡ ledger.packed (h .last .at) (young (c .time) (admissionsIn h air))
@@ -121,12 +134,9 @@ module _ (s : State) (stamp : ℕ) (h₁ h₂ : Head) (air words came : List ℕ
 
   pub refreshes : cleared ≡ stateOf (refreshed (viewOf s) stamp)
   refreshes =
-      λ i.
-      let x = (c .head ∙ ap counted (a .head)) i in
-      stateFrom ((c .rows ∙ ap (λ (h : Head). rowsFor (stillThere h (rowsIn s))) (a .head)) i)
-      ((ap (λ (h : Head). ledgerFor h air) (c .head) ∙ a .ledger) i) (loadsOf (x .loads) (s .loads))
-      (levelsOf (x .levels) (x .calm) (s .above) (s .waits)) (x .clock) (x .last) (x .counts) (x .tuning) (x .profile)
-      (x .oldway) (x .live)
+      let e = c .head ∙ ap counted (a .head) in
+      assembled e (c .rows ∙ ap (λ (h : Head). rowsFor (stillThere h (rowsIn s))) (a .head))
+      (ap (λ (h : Head). ledgerFor h air) (c .head) ∙ a .ledger) (ap (λ (h : Head). loadsOf (h .loads) (s .loads)) e)
 
   module _ (e : sound (refreshed (viewOf s) stamp) ≡ true) where
     pub cleared-settled : Settled cleared

@@ -9,7 +9,6 @@ use lib.ListN.{length, drop}
 use borrow.Author.Tests.{le-leb, lt-leb}
 use Rattle.rules.proofs.Cases.{split}
 use Rattle.rules.specs.Profiles.{room}
-use Rattle.machine.specs.Levels.{levelsOf}
 use Rattle.machine.specs.Loads.{loadsOf}
 use Rattle.model.specs.declared.Counts.{Counts}
 use Rattle.model.specs.declared.Packet.{Packet}
@@ -27,12 +26,12 @@ use Rattle.waiting.proofs.Wholes.{queue-short}
 use Rattle.waiting.proofs.Joining.{column-length, column-live, rows-pushed, popped-held, popped-waiting, popped-length}
 use Rattle.gate.specs.declared.Head.{Head}
 use Rattle.gate.specs.declared.State.{State}
-use Rattle.gate.specs.Layout.{stateWith, stateFrom, rowsIn, ledgerIn, viewOf, stateOf, soundState, outcome, callOn}
+use Rattle.gate.specs.Layout.{stateWith, rowsIn, ledgerIn, viewOf, stateOf, soundState, outcome, callOn}
 use Rattle.gate.specs.Steps.{liveOf, Settled, headWith, ledgerFor, hasFive}
 use Rattle.gate.specs.Steps.{Advanced, Cleared, Freed, Joinable, countsJoined, Joined}
 use Rattle.gate.proofs.Views.{engine, known}
 use Rattle.gate.proofs.Entry.{good-priority}
-use Rattle.gate.proofs.Moving.{refreshes, cleared-settled}
+use Rattle.gate.proofs.Moving.{assembled, refreshes, cleared-settled}
 
 -- the live packets of a priority
 pub live-count : (r : Rows) (k time n : ℕ) → k < 4 → n ≡ length (alive time (queueOf (queues r) k))
@@ -106,17 +105,11 @@ joined-by : (s : State) (h : Head) (words came : List ℕ) (o : Offer) (u : Bool
     → stateWith h words came (s .air) (s .loads) (s .above) (s .waits)
     ≡ stateOf (joined (cond u (displaced (viewOf s) (o .priority)) (viewOf s)) (packetOf o (s .head .clock .time)))
 joined-by s h words came o true t e f =
-    λ i.
-    let x = e i in
-    stateFrom (f i) ((ap (λ (y : Head). ledgerFor y (s .air)) e ∙ ap (λ (y : State). ledgerIn y) (t .tight)) i)
-    (loadsOf (x .loads) (s .loads)) (levelsOf (x .levels) (x .calm) (s .above) (s .waits)) (x .clock) (x .last) (x .counts)
-    (x .tuning) (x .profile) (x .oldway) (x .live)
+    assembled e f (ap (λ (x : Head). ledgerFor x (s .air)) e ∙ ap (λ (x : State). ledgerIn x) (t .tight))
+    (ap (λ (x : Head). loadsOf (x .loads) (s .loads)) e)
 joined-by s h words came o false t e f =
-    λ i.
-    let x = e i in
-    stateFrom (f i) ((ap (λ (y : Head). ledgerFor y (s .air)) e ∙ ap (λ (y : State). ledgerIn y) (t .tight)) i)
-    (loadsOf (x .loads) (s .loads)) (levelsOf (x .levels) (x .calm) (s .above) (s .waits)) (x .clock) (x .last) (x .counts)
-    (x .tuning) (x .profile) (x .oldway) (x .live)
+    assembled e f (ap (λ (x : Head). ledgerFor x (s .air)) e ∙ ap (λ (x : State). ledgerIn x) (t .tight))
+    (ap (λ (x : Head). loadsOf (x .loads) (s .loads)) e)
 
 -- the offer, from what its steps leave
 module _ (given : State) (stamp : ℕ) (o : Offer) (e : Passed engine given (offer stamp o)) (h₁ h₂ : Head)

@@ -6,7 +6,6 @@ use mathlib.Core.Bool.{true}
 use mathlib.Core.List.{List}
 use native.Mathlib.Omega.{arith}
 use lib.ListN.{drop}
-use Rattle.machine.specs.Levels.{levelsOf}
 use Rattle.machine.specs.Loads.{loadsOf}
 use Rattle.control.specs.Control.{Steerable}
 use Rattle.model.specs.declared.Packet.{Packet}
@@ -30,11 +29,11 @@ use Rattle.waiting.proofs.Meaning.{meant, InQueues, rows-alive, rows-waiting, c
 use Rattle.gate.specs.declared.Head.{Head}
 use Rattle.gate.specs.declared.State.{State}
 use Rattle.gate.specs.declared.Outcome.{Outcome}
-use Rattle.gate.specs.Layout.{stateWith, stateFrom, rowsIn, viewOf, stateOf, soundState, outcome, callOn}
+use Rattle.gate.specs.Layout.{stateWith, rowsIn, viewOf, stateOf, soundState, outcome, callOn}
 use Rattle.gate.specs.Steps.{Settled, ledgerFor, stillThere, Noting, Lasting, waitFor, airFor, Admissible, Admitted}
 use Rattle.gate.specs.Steps.{Advanced, Cleared, polledIn, polledOn, Servable, Served}
 use Rattle.gate.proofs.Views.{engine, given-of, known}
-use Rattle.gate.proofs.Moving.{refreshes, cleared-settled, none-expired}
+use Rattle.gate.proofs.Moving.{assembled, refreshes, cleared-settled, none-expired}
 
 -- where none is expired, what the search found is the model's choice
 finds : (h : Head) (r : Rows) (f : Found) → Held r → stillThere h r ≡ waitingIn r
@@ -76,11 +75,7 @@ module _ (s : State) (t : Settled s) where
       → stateWith h words came air (s .loads) (s .above) (s .waits)
       ≡ stateOf (admits (viewOf s) (packetIn k c) (change k (drop 1) (waitingIn (rowsIn s))))
   leaves k c h words came air a =
-      λ i.
-      let x = a .head i in
-      stateFrom (a .rows i) (a .ledger i) (loadsOf (x .loads) (s .loads))
-      (levelsOf (x .levels) (x .calm) (s .above) (s .waits)) (x .clock) (x .last) (x .counts) (x .tuning) (x .profile)
-      (x .oldway) (x .live)
+      assembled (a .head) (a .rows) (a .ledger) (ap (λ (x : Head). loadsOf (x .loads) (s .loads)) (a .head))
 
 -- what serving is given, and what it gives
 module _ (h : Head) (words came air waits : List ℕ) (g : Servable h words came air waits) (f : Found)

@@ -1,15 +1,17 @@
 -- One check after the other; then by the request.
 use Prim.Native.Nat.{ℕ}
-use mathlib.Core.Path.{sym, _∙_, ap}
+use mathlib.Core.Path.{_≡_, sym, _∙_, ap}
+use mathlib.Core.Bool.{false}
 use borrow.Author.Needs.{needs}
-use Rattle.rules.specs.Clock.{passesEnd, goesBack}
+use Rattle.rules.specs.Clock.{stepOf, goesBack, passesEnd}
 use Rattle.rules.specs.Refusals.{firstOf}
 use Rattle.model.specs.declared.Clock.{Clock}
 use Rattle.model.specs.declared.Packet.{Packet}
 use Rattle.model.specs.Fours.{Four}
 use Rattle.model.specs.Effects.{stepped}
+use Rattle.checks.specs.declared.Request.{Request}
 use Rattle.waiting.specs.Layout.{rows, waitingIn}
-use Rattle.gate.specs.Steps.{offerChecks}
+use Rattle.gate.specs.Steps.{offerChecks, requestChecks, refusals}
 use Rattle.gate.proofs.Entry.{goes-back, passes-end, by-request, is-4, not-4, no-own}
 use Rattle.gate.proofs.Head.refusal.Statement.{statement}
 use Rattle.gate.proofs.Head.refusal.Tie as tie
@@ -22,6 +24,26 @@ queued s = waitingIn (rows (s .args .queues .now) (s .args .came .now))
 abbrev later : tie.Start → ℕ
 later s = stepped (s .args .self .clock) (s .args .stamp) .time
 
+-- past the first test, and past the second
+abbrev first : tie.Else1 → tie.Start
+first c = c .before .before .before .before .before .before
+
+forward : (c : tie.Else1) → goesBack (stepOf (first c .args .stamp) (first c .args .self .clock .stamp)) ≡ false
+forward c = ap goesBack (sym (c .before .before .step .ensures)) ∙ sym (c .before .goes-back .ensures) ∙ c .if1 .left
+
+abbrev start : tie.Else2 → tie.Start
+start c = first (c .before .before .before)
+
+own : (c : tie.Else2) (r : Request) (n : ℕ) → let s = start c in
+    s .args .request ≡ r → n ≡ firstOf (requestChecks (s .args .self) (queued s) r (later s))
+    → n ≡ firstOf (refusals (s .args .self) (queued s) (s .args .request) (s .args .stamp))
+own c r n e f =
+    let s = start c in
+    by-request (s .args .self) (queued s) (s .args .request) (s .args .stamp) (forward (c .before .before .before))
+    (ap (λ (k : Clock). passesEnd (k .time)) (sym (c .before .before .clock-at .ensures)) ∙ sym (c .before .passes-end .ensures)
+    ∙ c .if2 .left)
+    r e n f
+
 returns : tie.Need-returns
 returns c =
     let s = c .before .before .before .before .before .before in
@@ -30,71 +52,38 @@ returns c =
 
 returns-2 : tie.Need-returns-2
 returns-2 c =
-    let at-clock-at = c .before .before in
-    let at-goes-back = at-clock-at .before .before in
-    let s = at-goes-back .before .before .before .before .before in
-    let on = ap goesBack (sym (at-goes-back .before .step .ensures)) ∙ sym (at-goes-back .goes-back .ensures) ∙ at-clock-at
-    .before .if1 .left in
-    passes-end (s .args .self) (queued s) (s .args .request) (s .args .stamp) on
-    (ap (λ (k : Clock). passesEnd (k .time)) (sym (at-clock-at .clock-at .ensures)) ∙ sym (c .before .passes-end .ensures) ∙ c
-    .if2 .taken)
+    let s = first (c .before .before .before) in
+    passes-end (s .args .self) (queued s) (s .args .request) (s .args .stamp) (forward (c .before .before .before))
+    (ap (λ (k : Clock). passesEnd (k .time)) (sym (c .before .before .clock-at .ensures)) ∙ sym (c .before .passes-end .ensures)
+    ∙ c .if2 .taken)
 
 returns-3 : tie.Need-returns-3
 returns-3 c =
-    let at-request = c .before .before .before in
-    let at-if2 = at-request .before .before in
-    let at-clock-at = at-if2 .before .before in
-    let at-goes-back = at-clock-at .before .before in
-    let s = at-goes-back .before .before .before .before .before in
-    let on = ap goesBack (sym (at-goes-back .before .step .ensures)) ∙ sym (at-goes-back .goes-back .ensures) ∙ at-clock-at
-    .before .if1 .left in
-    let past = ap (λ (k : Clock). passesEnd (k .time)) (sym (at-clock-at .clock-at .ensures)) ∙ sym (at-if2 .before .passes-end
-    .ensures) ∙ at-if2 .if2 .left in
-    by-request (s .args .self) (queued s) (s .args .request) (s .args .stamp) on past _ (at-request .request .given .1) _
+    let e = c .before .before .before .before .before in
+    let s = start e in
+    own e _ _ (c .before .before .before .request .given .1)
     (is-4 (s .args .self) (queued s) (later s) _ _ (sym (c .before .is-bad-count .ensures) ∙ c .if3 .taken))
 
 returns-4 : tie.Need-returns-4
 returns-4 c =
-    let at-request = c .before .before .before in
-    let at-if2 = at-request .before .before in
-    let at-clock-at = at-if2 .before .before in
-    let at-goes-back = at-clock-at .before .before in
-    let s = at-goes-back .before .before .before .before .before in
-    let on = ap goesBack (sym (at-goes-back .before .step .ensures)) ∙ sym (at-goes-back .goes-back .ensures) ∙ at-clock-at
-    .before .if1 .left in
-    let past = ap (λ (k : Clock). passesEnd (k .time)) (sym (at-clock-at .clock-at .ensures)) ∙ sym (at-if2 .before .passes-end
-    .ensures) ∙ at-if2 .if2 .left in
-    by-request (s .args .self) (queued s) (s .args .request) (s .args .stamp) on past _ (at-request .request .given .1) _
+    let e = c .before .before .before .before .before in
+    let s = start e in
+    own e _ _ (c .before .before .before .request .given .1)
     (not-4 (s .args .self) (queued s) (later s) _ _ (sym (c .before .is-bad-count .ensures) ∙ c .if3 .left))
 
 returns-5 : tie.Need-returns-5
 returns-5 c =
-    let at-request2 = c .before .before in
-    let at-if2 = at-request2 .before .before in
-    let at-clock-at = at-if2 .before .before in
-    let at-goes-back = at-clock-at .before .before in
-    let s = at-goes-back .before .before .before .before .before in
-    let on = ap goesBack (sym (at-goes-back .before .step .ensures)) ∙ sym (at-goes-back .goes-back .ensures) ∙ at-clock-at
-    .before .if1 .left in
-    let past = ap (λ (k : Clock). passesEnd (k .time)) (sym (at-clock-at .clock-at .ensures)) ∙ sym (at-if2 .before .passes-end
-    .ensures) ∙ at-if2 .if2 .left in
-    by-request (s .args .self) (queued s) (s .args .request) (s .args .stamp) on past _ (at-request2 .request2 .given .1) _
+    let e = c .before .before .before .before in
+    let s = start e in
+    own e _ _ (c .before .before .request2 .given .1)
     (c .offer-refusal .ensures
-    ∙ ap (λ (k : Clock). firstOf (offerChecks (s .args .self) (queued s) (at-request2 .request2 .given .0 .0) (k .time)))
-    (at-clock-at .clock-at .ensures))
+    ∙ ap (λ (k : Clock). firstOf (offerChecks (s .args .self) (queued s) (c .before .before .request2 .given .0 .0) (k .time)))
+    (e .before .before .clock-at .ensures))
 
 returns-6 : tie.Need-returns-6
 returns-6 c =
-    let at-if2 = c .before .before in
-    let at-clock-at = at-if2 .before .before in
-    let at-goes-back = at-clock-at .before .before in
-    let s = at-goes-back .before .before .before .before .before in
-    let on = ap goesBack (sym (at-goes-back .before .step .ensures)) ∙ sym (at-goes-back .goes-back .ensures) ∙ at-clock-at
-    .before .if1 .left in
-    let past = ap (λ (k : Clock). passesEnd (k .time)) (sym (at-clock-at .clock-at .ensures)) ∙ sym (at-if2 .before .passes-end
-    .ensures) ∙ at-if2 .if2 .left in
-    by-request (s .args .self) (queued s) (s .args .request) (s .args .stamp) on past _ (c .enum-told .given .1) _ (no-own (s
-    .args .self) (queued s) (later s))
+    let e = c .before .before in
+    let s = start e in own e _ _ (c .enum-told .given .1) (no-own (s .args .self) (queued s) (later s))
 
 pub refusal-spec : {M : Type 1} → statement M
 refusal-spec =
