@@ -1,14 +1,17 @@
 -- A queue rewritten in place, place by place: cleared behind its first n, and without those that are expired.
 use Prim.Native.Nat.{ℕ, zero, suc, _+_, _-_, _≤_, _<_}
 use mathlib.Core.Path.{_≡_, refl, ap, ap₂, sym, _∙_, subst⁻¹}
-use mathlib.Core.Bool.{Bool, true, false, cond}
+use mathlib.Core.Bool.{Bool, true, false, cond, _&&_}
 use mathlib.Core.List.{List, [], _∷_, _++_, append-nil}
 use native.Mathlib.Numerals.{add-one}
 use native.Mathlib.Omega.{arith}
 use lib.ListN.{length, take, drop, getD, set, replicate, length-append, length-take, length-drop, take-append-drop}
+use lib.ListN.{drop-of-length-le}
 use lib.Seq.{take-suc, take-suc-set, drop-set-lt, drop-drop, drop-at, drop-append-add, getD-drop, length-take-le}
+use lib.Seq.{drop-cons, getD-take}
 use Rattle.rules.specs.Profiles.{room}
-use Rattle.packing.specs.Packing.{filled}
+use Rattle.rules.proofs.Cases.{both}
+use Rattle.packing.specs.Packing.{filled, allAre}
 use Rattle.packing.proofs.Packing.{set-filled, length-filled}
 use Rattle.packing.proofs.Stores.{Stored, clear-begun, clear-next, shift-next, shifted}
 use Rattle.waiting.specs.declared.Cell.{Cell}
@@ -272,3 +275,44 @@ module _ (now : ℕ) (r : Rows) (s : Sized 1 r) (left i : ℕ) (e : left ≡ len
 
   pub passes : isLive now x ≡ false → left ≡ length (alive now (take (i + 1) (cells r)))
   passes f = e ∙ ap (λ (cs : List Cell). length cs) (sym (alive-no now (cells r) i (omega (arith, length-cells r s)) (at-i ∙ f)))
+
+-- all of a queue are live if those from place i on are
+abbrev pub LiveTo : (now : ℕ) → Rows → (i : ℕ) → Type 0
+LiveTo now r i = allAre (isLive now) (items r) ≡ allAre (isLive now) (drop i (items r))
+
+module _ (now : ℕ) (r : Rows) (s : Sized 1 r) (b : lenIn r ≤ room) (i : ℕ) (e : LiveTo now r i) where
+  module _ (h : i < lenIn r) (x : Cell) (q : x ≡ cellAt r i) where
+    item-at : getD (items r) i noCell ≡ x
+    item-at = getD-take (lenIn r) (cells r) i noCell h ∙ sym (q ∙ read-at r s i (omega arith))
+
+    next : allAre (isLive now) (items r) ≡ (isLive now x && allAre (isLive now) (drop (i + 1) (items r)))
+    unfolding allAre
+    next =
+        e
+        ∙ ap (allAre (isLive now)) (drop-cons (items r) i noCell (omega (arith, length-items r s b)))
+        ∙ rw (item-at, add-one i)
+
+    pub one-expired : isLive now x ≡ false → allAre (isLive now) (items r) ≡ false
+    one-expired f = next ∙ ap (λ (a : Bool). a && allAre (isLive now) (drop (i + 1) (items r))) f
+
+    pub one-live : isLive now x ≡ true → LiveTo now r (i + 1)
+    one-live f = next ∙ ap (λ (a : Bool). a && allAre (isLive now) (drop (i + 1) (items r))) f
+
+  pub all-live : lenIn r ≤ i → allAre (isLive now) (items r) ≡ true
+  unfolding allAre
+  all-live h =
+      e ∙ ap (allAre (isLive now)) (drop-of-length-le (items r) {i = i} (omega (arith, length-items r s b)))
+
+-- where all are live, the rows are those of the live ones already
+alive-all : (now : ℕ) (cs : List Cell) → allAre (isLive now) cs ≡ true → alive now cs ≡ cs
+unfolding alive allAre
+alive-all now [] e = refl
+alive-all now (c ∷ cs) e =
+    let b = both (isLive now c) (allAre (isLive now) cs) e in
+    rw (b .0) (ap (λ (l : List Cell). c ∷ l) (alive-all now cs (b .1)))
+
+pub none-expired : (now : ℕ) (r : Rows) → Packed r → allAre (isLive now) (items r) ≡ true
+    → (0 ≡ length (items r) - length (alive now (items r))) × (r ≡ packed (alive now (items r)))
+none-expired now r t e =
+    let a = alive-all now (items r) e in
+    (omega (arith, ap (λ (cs : List Cell). length cs) a), t ∙ ap packed (sym a))

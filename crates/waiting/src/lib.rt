@@ -1,6 +1,7 @@
 // Packets that wait, in rows that are lent where they lie. A queue is sixteen words and five times: how many
 // wait; then the id, the on-time and the lifetime of each of five places, the oldest first; and when each
-// came. Places that are not used are zero. Four queues stand one behind the other, queue 0 first.
+// came. Places that are not used are zero. Four queues stand one behind the other, queue 0 first. What nearly
+// every call does counts in 32 bits: in 64, a small processor takes half as many instructions again.
 ghost use mathlib.Core.Path.{_≡_};
 ghost use mathlib.Core.Bool.{_&&_};
 ghost use mathlib.Core.List.{[], _∷_, _++_, map};
@@ -222,7 +223,24 @@ fn move_to(words: &mut [u32], came: &mut [u64], from: usize, to: usize)
     put(words, came, to, c);
 }
 
-// A queue without its expired packets; how many went.
+// Whether no packet of a queue is expired.
+fn are_live(words: &[u32], came: &[u64], time: u64) -> bool
+    requires { ⌜ Sized 1 (rows (now words) (now came)) ⌝ }
+    requires { ⌜ lenIn (rows (now words) (now came)) ≤ room ⌝ }
+    ensures { λ r. ⌜ r ≡ allAre (isLive time) (items (rows (now (words .entry)) (now (came .entry)))) ⌝ }
+{
+    let n = words[0];
+    let mut i: u32 = 0;
+    while i < n {
+        if !is_live(cell_at(words, came, i as usize), time) {
+            return false;
+        }
+        i += 1;
+    }
+    true
+}
+
+// A queue without its expired packets; how many went. Mostly none is expired, and then nothing is written.
 fn expire(words: &mut [u32], came: &mut [u64], time: u64) -> usize
     requires { ⌜ Sized 1 (rows (now words) (now came)) ⌝ }
     requires { ⌜ Packed (rows (now words) (now came)) ⌝ }
@@ -232,6 +250,9 @@ fn expire(words: &mut [u32], came: &mut [u64], time: u64) -> usize
     ensures left { λ _. ⌜ rows (now (words .exit)) (now (came .exit))
         ≡ packed (alive time (items (rows (now (words .entry)) (now (came .entry))))) ⌝ }
 {
+    if are_live(words, came, time) {
+        return 0;
+    }
     let n = len(words);
     let mut left: usize = 0;
     let mut i: usize = 0;
@@ -271,13 +292,13 @@ fn pop(words: &mut [u32], came: &mut [u64])
     if n == 0 {
         return;
     }
-    let left = n - 1;
-    let mut i: usize = 0;
+    let left = (n - 1) as u32;
+    let mut i: u32 = 0;
     while i < left {
-        move_to(words, came, i + 1, i);
+        move_to(words, came, i as usize + 1, i as usize);
         i += 1;
     }
-    clear(words, came, left, n);
+    clear(words, came, left as usize, n);
 }
 
 // How many are not expired.
@@ -359,10 +380,10 @@ pub fn expire_all(words: &mut [u32], came: &mut [u64], time: u64) -> u64
         ≡ laid (map (alive time) (queues (rows (now (words .entry)) (now (came .entry))))) ⌝ }
 {
     let mut gone: u64 = 0;
-    let mut k: usize = 0;
-    while k < QUEUES {
-        let a = WORDS * k;
-        let b = PLACES * k;
+    let mut k: u32 = 0;
+    while (k as usize) < QUEUES {
+        let a = WORDS * k as usize;
+        let b = PLACES * k as usize;
         gone += expire(&mut words[a..a + WORDS], &mut came[b..b + PLACES], time) as u64;
         k += 1;
     }

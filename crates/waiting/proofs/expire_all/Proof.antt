@@ -19,8 +19,17 @@ abbrev μ-loop : tie.MeasureT-loop
 loop-holds : tie.Need-loop-holds Inv-loop μ-loop
 loop-holds c = let s = c .before .before in (omega arith, expiring _ _ (s .pre))
 
+cast-loop : tie.Need-cast-loop Inv-loop μ-loop
+cast-loop c = search needs
+
+cast-a : tie.Need-cast-a Inv-loop μ-loop
+cast-a c = search needs
+
 mul-a : tie.Need-mul-a Inv-loop μ-loop
 mul-a c = search needs
+
+cast-b : tie.Need-cast-b Inv-loop μ-loop
+cast-b c = search needs
 
 mul-b : tie.Need-mul-b Inv-loop μ-loop
 mul-b c = search needs
@@ -114,7 +123,10 @@ expire-all-spec =
     Inv-loop
     μ-loop
     loop-holds
+    cast-loop
+    cast-a
     mul-a
+    cast-b
     mul-b
     add-expire
     mul-expire

@@ -29,6 +29,9 @@ returns c =
 sub-left : tie.Need-sub-left Inv-loop μ-loop
 sub-left c = search needs
 
+cast-left : tie.Need-cast-left Inv-loop μ-loop
+cast-left c = search needs
+
 loop-holds : tie.Need-loop-holds Inv-loop μ-loop
 loop-holds c =
     let s = c .before .before .before .before .before in
@@ -39,8 +42,14 @@ loop-holds c =
       shifting _ _ (s .pre .0) (omega (arith, n, s .pre .1 .1)),
     )
 
+cast-move-to : tie.Need-cast-move-to Inv-loop μ-loop
+cast-move-to c = search needs
+
 add-move-to : tie.Need-add-move-to Inv-loop μ-loop
 add-move-to c = search needs
+
+cast-move-to-2 : tie.Need-cast-move-to-2 Inv-loop μ-loop
+cast-move-to-2 c = search needs
 
 move-to-requires : tie.Need-move-to-requires Inv-loop μ-loop
 move-to-requires c κs =
@@ -62,6 +71,9 @@ loop-again c =
       shifts-next _ _ (s .pre .0) (l .inv .2) _ _ _ (l .inv .3) (omega (arith, l .inv .1))
           (c .before .before .before .before .move-to .ensures),
     )
+
+cast-clear : tie.Need-cast-clear Inv-loop μ-loop
+cast-clear c = search needs
 
 clear-requires : tie.Need-clear-requires Inv-loop μ-loop
 clear-requires c κs =
@@ -103,12 +115,16 @@ pop-spec =
     same-length
     returns
     sub-left
+    cast-left
     loop-holds
+    cast-move-to
     add-move-to
+    cast-move-to-2
     move-to-requires
     add-i
     loop-less
     loop-again
+    cast-clear
     clear-requires
     same-length-2
     same-length-3
