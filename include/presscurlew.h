@@ -16,9 +16,9 @@
  *     the rules   the gate's rules on plain numbers, for a stack that has a gate of its own   libcstack.a
  *     in doubles  profile 3's update in floating point, for simulations                       libfloats.a
  *
- * They are for x86-64 Linux (System V calling convention). For ARM and RISC-V boards all of them, and the second
- * engine, are one archive, target/boards/BOARD/libpresscurlew.a; docs/BOARDS.md says how it is made, and what is then
- * assumed besides.
+ * They are for x86-64 Linux (System V calling convention). For ARM and RISC-V the release has libpresscurlew.a, and
+ * the second engine's archive, in the folder of each target below lib; docs/BOARDS.md says how they are made, and what
+ * is then assumed besides.
  *
  * Each call is proved to answer what its comment says, for any numbers and any gate at all: nothing is undefined and
  * nothing aborts. A call changes what is behind the pointers that it writes through, as its comment says, and nothing
