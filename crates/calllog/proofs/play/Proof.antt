@@ -1,12 +1,7 @@
 -- A record of an unknown kind, of a call, and of a make.
-use Prim.Native.Nat.{ℕ}
-use mathlib.Core.Path.{sym, ap, _∙_}
+use mathlib.Core.Path.{sym, _∙_}
 use native.Mathlib.Omega.{arith}
-use Rattle.machine.specs.Levels.{noLevels}
-use Rattle.model.specs.Calls.{makingOf}
-use Rattle.gate.specs.Layout.{makeState}
 use Rattle.calllog.proofs.Asking.{step-make, step-unknown}
-use Rattle.calllog.proofs.Soundness.{make-tells}
 use borrow.Author.Needs.{needs}
 use Rattle.calllog.proofs.play.Statement.{statement}
 use Rattle.calllog.proofs.play.Tie as tie
@@ -46,17 +41,8 @@ returns-2 c =
     let at-call-in = c .before .before .before .before .before .before .before .before .before in
     let t = at-call-in .call-in in (t .ensures .0, t .ensures .1)
 
-profile-in-requires : tie.Need-profile-in-requires
-profile-in-requires c κs = search needs
-
-slice-aggregate-make-in : tie.Need-slice-aggregate-make-in
-slice-aggregate-make-in c = search needs
-
-slice-aggregate-make-in-2 : tie.Need-slice-aggregate-make-in-2
-slice-aggregate-make-in-2 c = search needs
-
-make-in-requires : tie.Need-make-in-requires
-make-in-requires c κs = search needs
+make-from-requires : tie.Need-make-from-requires
+make-from-requires c κs = search needs
 
 same-length-7 : tie.Need-same-length-7
 same-length-7 c = search needs
@@ -78,30 +64,10 @@ same-length-12 c = search needs
 
 returns-3 : tie.Need-returns-3
 returns-3 c =
-    let at-make-in = c .before .before .before .before .before .before .before .before .before .before .before .before .before
-    .before in
-    let at-profile-in = at-make-in .before .before .before .before .before .before .before .before .before in
-    let at-if2 = at-profile-in .before in
-    let s = at-if2 .before .before .before .before .before .before .before .before .before .before in
-    let r = s .pre .roomy in
-    let rec = s .args .rec in
-    let t = at-make-in .make-in in (
-      t .ensures
-          ∙ ap (λ (profile : ℕ). makeState (makingOf profile (rec .lifetime) noLevels (rec .stamp)))
-          (at-profile-in .profile-in .ensures)
-          ∙ sym (step-make _ rec (omega (arith, at-if2 .if2 .left))),
-      record {
-        roomy =
-            record {
-              queues = record { words = omega (arith, t .kept, r); came = omega (arith, t .kept, r) };
-              air = omega (arith, t .kept, r);
-              loads = omega (arith, t .kept, r);
-              above = omega (arith, t .kept, r);
-              waits = omega (arith, t .kept, r);
-            };
-        told = make-tells _ _ (t .ensures);
-      },
-    )
+    let at-make-from = c .before .before .before .before .before .before .before .before .before .before .before .before in
+    let at-if2 = at-make-from .before .before .before .before .before .before .before in
+    let t = at-make-from .make-from in
+    (t .ensures .0 ∙ sym (step-make _ _ (omega (arith, at-if2 .if2 .left))), t .ensures .1)
 
 pub play-spec : {M : Type 1} → statement M
 play-spec =
@@ -116,10 +82,7 @@ play-spec =
     same-length-5
     same-length-6
     returns-2
-    profile-in-requires
-    slice-aggregate-make-in
-    slice-aggregate-make-in-2
-    make-in-requires
+    make-from-requires
     same-length-7
     same-length-8
     same-length-9

@@ -27,8 +27,7 @@ given s =
 
 -- the function's start, seen from the block
 abbrev start : tie.After-block → tie.Start
-start u = u .before .before .before .before .before .before .before .before .before .before .before .before .before .before
-    .before .before
+start u = u .before .before .before .before .before .before .before .before .before .before
 
 -- what the block did: the records of a block, and their lines
 record Did (u : tie.After-block) : Type 0 where
@@ -57,42 +56,19 @@ ends :
 ends u = omega (arith, did u .put .place)
 
 block-requires : tie.Need-block-requires
-block-requires c κs =
-    let at-entry = c .before .before .before .before .before .before .before .before .before .before .before .before .before
-    .before .before in
-    at-entry .pre
+block-requires c κs = search needs
 
 last-line-requires : tie.Need-last-line-requires
 last-line-requires c κs =
-    let u = c .before .before .before .before .before .before .before .before .before .before .before .before .before .before
-    .before .before .before in
+    let u = c .before .before .before .before .before in
     let s = start u in
     omega (arith, did u .room, ends u, room-for-last (given s) (now (s .args .input)))
-
-same-length : tie.Need-same-length
-same-length c = search needs
-
-same-length-2 : tie.Need-same-length-2
-same-length-2 c = search needs
-
-same-length-3 : tie.Need-same-length-3
-same-length-3 c = search needs
-
-same-length-4 : tie.Need-same-length-4
-same-length-4 c = search needs
-
-same-length-5 : tie.Need-same-length-5
-same-length-5 c = search needs
-
-same-length-6 : tie.Need-same-length-6
-same-length-6 c = search needs
 
 returns : tie.Need-returns
 returns c =
     let at-if2 = c .before in
     let at-if1 = at-if2 .before in
-    let u = at-if1 .before .before .before .before .before .before .before .before .before .before .before .before .before .before
-    .before .before in
+    let u = at-if1 .before .before .before .before in
     let s = start u in
     let a = s .args in
     let d = did u in
@@ -113,28 +89,9 @@ returns c =
     )) in
     (d .used, (u .block .ensures .1 .0, (p, (refl, (λ h. rw (d .used) (whole (length (now (a .input))) h), inside)))))
 
-same-length-7 : tie.Need-same-length-7
-same-length-7 c = search needs
-
-same-length-8 : tie.Need-same-length-8
-same-length-8 c = search needs
-
-same-length-9 : tie.Need-same-length-9
-same-length-9 c = search needs
-
-same-length-10 : tie.Need-same-length-10
-same-length-10 c = search needs
-
-same-length-11 : tie.Need-same-length-11
-same-length-11 c = search needs
-
-same-length-12 : tie.Need-same-length-12
-same-length-12 c = search needs
-
 returns-2 : tie.Need-returns-2
 returns-2 c =
-    let u = c .before .before .before .before .before .before .before .before .before .before .before .before .before .before
-    .before .before in
+    let u = c .before .before .before .before in
     let s = start u in
     let a = s .args in
     let d = did u in
@@ -166,17 +123,5 @@ turn-spec =
     (tie.spec
     block-requires
     last-line-requires
-    same-length
-    same-length-2
-    same-length-3
-    same-length-4
-    same-length-5
-    same-length-6
     returns
-    same-length-7
-    same-length-8
-    same-length-9
-    same-length-10
-    same-length-11
-    same-length-12
     returns-2)

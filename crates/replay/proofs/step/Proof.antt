@@ -29,7 +29,6 @@ left u =
 -- the function's start, seen from the turn
 abbrev start : tie.After-turn → tie.Start
 start u = u .before .before .before .before .before .before .before .before .before .before .before .before .before .before
-    .before .before .before .before .before .before
 
 -- what was read before it
 abbrev filled : tie.After-turn → tie.After-fill
@@ -45,20 +44,16 @@ handed u more on =
     let f = filled u .fill in
     let t = u .turn in
     let piece = take (f .result .bytes) (f .last .0) in
-    let fits : length piece ≤ blockBytes = omega (arith, f .kept, f .ensures, s .pre .1) in
+    let fits : length piece ≤ blockBytes = omega (arith, f .kept, f .ensures, s .pre) in
     handed-on (given s) (left u) piece (f .result .failed) (t .result .used) (t .result .end) (t .result .more) more fits
     (t .ensures .1 .0) (t .ensures .1 .1 .0) (t .ensures .1 .1 .1 .0) (t .ensures .1 .1 .1 .1 .0 fits) on
 
 -- the turn, seen from where the function returns
 abbrev turned : tie.Then3 → tie.After-turn
-turned c =
-    c .before .before .before .before .before .before .before .before .before .before .before .before .before
-    .before .before .before .before .before
+turned c = c .before .before .before .before .before .before
 
 abbrev turned-2 : tie.Else3 → tie.After-turn
-turned-2 c =
-    c .before .before .before .before .before .before .before .before .before .before .before .before .before
-    .before .before .before .before .before
+turned-2 c = c .before .before .before .before .before .before
 
 fill-requires : tie.Need-fill-requires
 fill-requires c κs = search needs
@@ -70,16 +65,10 @@ slice-aggregate-piece : tie.Need-slice-aggregate-piece
 slice-aggregate-piece c = search needs
 
 turn-requires : tie.Need-turn-requires
-turn-requires c κs =
-    let at-entry = c .before .before .before .before .before .before .before .before .before .before .before .before .before
-    .before .before .before .before .before .before in
-    at-entry .pre .0
+turn-requires c κs = search needs
 
 write-text-requires : tie.Need-write-text-requires
-write-text-requires c κs =
-    let at-turn = c .before .before .before .before .before .before .before .before .before .before .before .before .before
-    .before .before in
-    at-turn .turn .ensures .1 .1 .1 .1 .1
+write-text-requires c κs = c .before .before .before .turn .ensures .1 .1 .1 .1 .1
 
 slice-aggregate-write-all : tie.Need-slice-aggregate-write-all
 slice-aggregate-write-all c = search needs
@@ -88,49 +77,13 @@ write-all-requires : tie.Need-write-all-requires
 write-all-requires c κs = search needs
 
 same-length : tie.Need-same-length
-same-length c = omega (arith, turned c .turn .kept)
-
-same-length-2 : tie.Need-same-length-2
-same-length-2 c = omega (arith, turned c .turn .kept)
-
-same-length-3 : tie.Need-same-length-3
-same-length-3 c = omega (arith, turned c .turn .kept)
-
-same-length-4 : tie.Need-same-length-4
-same-length-4 c = omega (arith, turned c .turn .kept)
-
-same-length-5 : tie.Need-same-length-5
-same-length-5 c = omega (arith, turned c .turn .kept)
-
-same-length-6 : tie.Need-same-length-6
-same-length-6 c = omega (arith, turned c .turn .kept)
-
-same-length-7 : tie.Need-same-length-7
-same-length-7 c = omega (arith, filled (turned c) .fill .kept)
+same-length c = omega (arith, filled (turned c) .fill .kept)
 
 returns : tie.Need-returns
 returns c = let u = turned c in handed u (u .turn .result .more) (λ e. e)
 
-same-length-8 : tie.Need-same-length-8
-same-length-8 c = omega (arith, turned-2 c .turn .kept)
-
-same-length-9 : tie.Need-same-length-9
-same-length-9 c = omega (arith, turned-2 c .turn .kept)
-
-same-length-10 : tie.Need-same-length-10
-same-length-10 c = omega (arith, turned-2 c .turn .kept)
-
-same-length-11 : tie.Need-same-length-11
-same-length-11 c = omega (arith, turned-2 c .turn .kept)
-
-same-length-12 : tie.Need-same-length-12
-same-length-12 c = omega (arith, turned-2 c .turn .kept)
-
-same-length-13 : tie.Need-same-length-13
-same-length-13 c = omega (arith, turned-2 c .turn .kept)
-
-same-length-14 : tie.Need-same-length-14
-same-length-14 c = omega (arith, filled (turned-2 c) .fill .kept)
+same-length-2 : tie.Need-same-length-2
+same-length-2 c = omega (arith, filled (turned-2 c) .fill .kept)
 
 returns-2 : tie.Need-returns-2
 returns-2 c = handed (turned-2 c) (c .before .before .write-text .result) (λ e. cc (e, c .if3 .left))
@@ -147,18 +100,6 @@ step-spec =
     slice-aggregate-write-all
     write-all-requires
     same-length
-    same-length-2
-    same-length-3
-    same-length-4
-    same-length-5
-    same-length-6
-    same-length-7
     returns
-    same-length-8
-    same-length-9
-    same-length-10
-    same-length-11
-    same-length-12
-    same-length-13
-    same-length-14
+    same-length-2
     returns-2)
