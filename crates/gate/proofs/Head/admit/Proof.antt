@@ -9,11 +9,8 @@ use Rattle.gate.proofs.Head.admit.Tie as tie
 
 note-requires : tie.Need-note-requires
 note-requires c κs =
-    let p = c .before .before .before .before .before .before .before .before .before .before .before .before .pre in (
-      p
-          .forty,
-      (p .tight, (p .room, (p .past, p .young))),
-    )
+    let p = c .before .before .before .before .before .before .before .before .before .before .before .before .pre in
+    (p .forty, (p .tight, (p .room, (p .past, p .young))))
 
 add-self : tie.Need-add-self
 add-self c =

@@ -11,13 +11,8 @@ add-counts : tie.Need-add-counts
 add-counts c =
     let at-expire-all = c .before .before .before .before .before .before in
     let s = at-expire-all .before .before .before .before .before in
-    omega (
-      arith,
-      s .pre .expired,
-      at-expire-all .expire-all .ensures .0,
-      twenty (rows (s .args .queues .now) (s .args .came
-          .now)) (s .pre .held .size),
-    )
+    let few = twenty (rows (s .args .queues .now) (s .args .came .now)) (s .pre .held .size) in
+    omega (arith, s .pre .expired, at-expire-all .expire-all .ensures .0, few)
 
 returns : tie.Need-returns
 returns c =

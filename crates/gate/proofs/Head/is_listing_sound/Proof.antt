@@ -41,22 +41,14 @@ returns-4 c = simp (ne-eqb _ _ (c .before .before .before .if1 .left), ne-eqb _ 
 returns-5 : tie.Need-returns-5
 unfolding listingSound noneListed
 returns-5 c =
-    simp (
-      ne-eqb _ _ (c .before .before .before .before .before .if1 .left),
-      sym (c .before .are-zero .ensures) ∙ not-true _ (c
-          .if5 .taken),
-      and-false,
-    )
+    let other = ne-eqb _ _ (c .before .before .before .before .before .if1 .left) in
+    simp (other, sym (c .before .are-zero .ensures) ∙ not-true _ (c .if5 .taken), and-false)
 
 returns-6 : tie.Need-returns-6
 unfolding listingSound noneListed
 returns-6 c =
-    simp (
-      ne-eqb _ _ (c .before .before .before .before .before .before .before .if1 .left),
-      sym (c .before .are-zero2
-          .ensures) ∙ not-true _ (c .if6 .taken),
-      and-false,
-    )
+    let other = ne-eqb _ _ (c .before .before .before .before .before .before .before .if1 .left) in
+    simp (other, sym (c .before .are-zero2 .ensures) ∙ not-true _ (c .if6 .taken), and-false)
 
 returns-7 : tie.Need-returns-7
 unfolding listingSound noneListed

@@ -9,17 +9,8 @@ use Rattle.gate.proofs.Head.left_for.Tie as tie
 
 air-left-requires : tie.Need-air-left-requires
 air-left-requires c κs =
-    let n = c .before .before .before .before .before .before .before .before .before .pre .1 .1 in (
-      n .forty,
-      (
-        n .few,
-        (
-          n
-              .air,
-          n .in-time,
-        ),
-      ),
-    )
+    let n = c .before .before .before .before .before .before .before .before .before .pre .1 .1 in
+    (n .forty, (n .few, (n .air, n .in-time)))
 
 returns : tie.Need-returns
 returns c =
