@@ -25,12 +25,9 @@ pub handed-on :
     → full ≡ goesOn piece
     → Whole (length piece) used full
     → (more ≡ true → full ≡ true)
-    → Turned s buffer s′ end more after
+    → Turned s piece failed buffer s′ end more after
 handed-on s s′ piece failed used end full more fits state text goes-on whole on =
     record {
-      piece = piece;
-      failed = failed;
-      fits = fits;
       state = state ∙ ap (reachedFrom s piece) (whole .done);
       text = text;
       full = λ e. omega (arith, fits, leb-true blockBytes (length piece) (sym goes-on ∙ on e));
@@ -38,21 +35,21 @@ handed-on s s′ piece failed used end full more fits state text goes-on whole o
 
 -- one more turn
 pub reached-on :
-    {s s′ : State} {more more′ : Bool} {buffer after : List ℕ} {end : ℕ}
-    → Reached s more → more ≡ true → Turned s buffer s′ end more′ after → Reached s′ more′
-reached-on h on t =
+    {s s′ : State} {more more′ : Bool} {piece : List ℕ} {failed : Bool} {buffer after : List ℕ} {end : ℕ}
+    → Reached s more → more ≡ true → Turned s piece failed buffer s′ end more′ after → Reached s′ more′
+reached-on {piece} h on t =
     let n = length (h .log) / recordBytes in
-    let m = length (t .piece) / recordBytes in
+    let m = length piece / recordBytes in
     let cut = h .cut on in
-    let k : length (h .log ++ t .piece) / recordBytes ≡ n + m = omega (arith, cut, length-append (h .log) (t .piece)) in
+    let k : length (h .log ++ piece) / recordBytes ≡ n + m = omega (arith, cut, length-append (h .log) piece) in
     record {
-      log = h .log ++ t .piece;
+      log = h .log ++ piece;
       state =
           t .state
-          ∙ ap (λ (x : State). reachedFrom x (t .piece) m) (h .state)
-          ∙ sym (state-past atStart (h .log) (t .piece) n m cut)
-          ∙ ap (reachedFrom atStart (h .log ++ t .piece)) (sym k);
-      cut = λ e. omega (arith, cut, t .full e, length-append (h .log) (t .piece));
+          ∙ ap (λ (x : State). reachedFrom x piece m) (h .state)
+          ∙ sym (state-past atStart (h .log) piece n m cut)
+          ∙ ap (reachedFrom atStart (h .log ++ piece)) (sym k);
+      cut = λ e. omega (arith, cut, t .full e, length-append (h .log) piece);
     }
 
 -- the head is that of the state

@@ -1,7 +1,8 @@
 -- What was read is what the turn is given; the program goes on only if the turn says so and its text is written.
-use Prim.Native.Nat.{_≤_}
+use Prim.Native.Nat.{ℕ, _≤_}
 use mathlib.Core.Path.{_≡_}
 use mathlib.Core.Bool.{Bool, true}
+use mathlib.Core.List.{List}
 use native.Mathlib.Omega.{arith}
 use denote.Ref.{now}
 use lib.ListN.{length, take}
@@ -28,24 +29,22 @@ left u =
 
 -- the function's start, seen from the turn
 abbrev start : tie.After-turn → tie.Start
-start u = u .before .before .before .before .before .before .before .before .before .before .before .before .before .before
+start u = u .before .before .before .before .before .before .before .before .before .before
 
--- what was read before it
-abbrev filled : tie.After-turn → tie.After-fill
-filled u = u .before .before .before .before .before .before .before .before .before .before .before
+-- what was read
+abbrev piece : tie.After-turn → List ℕ
+piece u = take (start u .args .bytes) (now (start u .args .input))
 
 -- the turn as the program says it, for a flag that is on only where the turn's own is
 handed :
     (u : tie.After-turn) (more : Bool) → (more ≡ true → u .turn .result .more ≡ true)
-    → Turned (given (start u)) (now (start u .args .out)) (left u) (u .turn .result .end) more
+    → Turned (given (start u)) (piece u) (start u .args .failed) (now (start u .args .out)) (left u) (u .turn .result .end) more
     (u .turn .last .1 .1 .1 .1 .1 .1 .1 .1 .1 .0)
 handed u more on =
     let s = start u in
-    let f = filled u .fill in
     let t = u .turn in
-    let piece = take (f .result .bytes) (f .last .0) in
-    let fits : length piece ≤ blockBytes = omega (arith, f .kept, f .ensures, s .pre) in
-    handed-on (given s) (left u) piece (f .result .failed) (t .result .used) (t .result .end) (t .result .more) more fits
+    let fits : length (piece u) ≤ blockBytes = omega (arith, s .pre .0, s .pre .1) in
+    handed-on (given s) (left u) (piece u) (s .args .failed) (t .result .used) (t .result .end) (t .result .more) more fits
     (t .ensures .1 .0) (t .ensures .1 .1 .0) (t .ensures .1 .1 .1 .0) (t .ensures .1 .1 .1 .1 .0 fits) on
 
 -- the turn, seen from where the function returns
@@ -54,12 +53,6 @@ turned c = c .before .before .before .before .before .before
 
 abbrev turned-2 : tie.Else3 → tie.After-turn
 turned-2 c = c .before .before .before .before .before .before
-
-fill-requires : tie.Need-fill-requires
-fill-requires c κs = search needs
-
-slice-reshare-prefix-piece : tie.Need-slice-reshare-prefix-piece
-slice-reshare-prefix-piece c = search needs
 
 slice-aggregate-piece : tie.Need-slice-aggregate-piece
 slice-aggregate-piece c = search needs
@@ -76,14 +69,8 @@ slice-aggregate-write-all c = search needs
 write-all-requires : tie.Need-write-all-requires
 write-all-requires c κs = search needs
 
-same-length : tie.Need-same-length
-same-length c = omega (arith, filled (turned c) .fill .kept)
-
 returns : tie.Need-returns
 returns c = let u = turned c in handed u (u .turn .result .more) (λ e. e)
-
-same-length-2 : tie.Need-same-length-2
-same-length-2 c = omega (arith, filled (turned-2 c) .fill .kept)
 
 returns-2 : tie.Need-returns-2
 returns-2 c = handed (turned-2 c) (c .before .before .write-text .result) (λ e. cc (e, c .if3 .left))
@@ -92,14 +79,10 @@ pub step-spec : {M : Type 1} → statement M
 step-spec =
     tie.close
     (tie.spec
-    fill-requires
-    slice-reshare-prefix-piece
     slice-aggregate-piece
     turn-requires
     write-text-requires
     slice-aggregate-write-all
     write-all-requires
-    same-length
     returns
-    same-length-2
     returns-2)
