@@ -1,7 +1,7 @@
 -- An engine, whatever way its packets wait: its states lay the model's out and read back to them, and a call on one is the
 -- model's call on what it says, laid out.
 use Prim.Native.Nat.{ℕ, _≤_}
-use mathlib.Core.Path.{_≡_, refl, ap, sym, _∙_}
+use mathlib.Core.Path.{_≡_, ap, sym, _∙_}
 use mathlib.Core.Bool.{Bool, true, cond, _&&_}
 use Rattle.rules.specs.Clock.{endOfTime}
 use Rattle.rules.specs.Profiles.{ontimeAllowed}

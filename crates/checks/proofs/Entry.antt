@@ -15,7 +15,7 @@ use Rattle.rules.proofs.Refusals.{of-none}
 use Rattle.model.specs.declared.Clock.{Clock}
 use Rattle.model.specs.declared.Answer.the-variants.{Refused}
 use Rattle.model.specs.Packets.{Holding}
-use Rattle.model.specs.Calls.{Call, words, count, poll, stampOf, isRefused}
+use Rattle.model.specs.Calls.{Call, words, count, poll, stampOf}
 use Rattle.model.specs.State.{Status, sound}
 use Rattle.model.specs.Effects.{Result, stepped, refreshed, effect}
 use Rattle.model.specs.Gate.{ownChecks, checks, unlessRefused, call}

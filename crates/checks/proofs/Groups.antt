@@ -2,7 +2,6 @@
 use Prim.Native.Nat.{ℕ, _+_, _≤_}
 use mathlib.Core.Path.{_≡_}
 use mathlib.Core.Bool.{true}
-use native.Mathlib.Omega.{arith}
 use lib.Dec.{eqb}
 use lib.ListN.{length}
 use Rattle.rules.specs.Tests.{allOf}
@@ -15,9 +14,9 @@ use Rattle.control.specs.Control.{Steerable}
 use Rattle.control.proofs.Controls.{test-control, steerable}
 use Rattle.model.specs.declared.Last.{Last}
 use Rattle.model.specs.Packets.{Holding}
-use Rattle.model.specs.Ledger.{mostAir, places, young, airOf, ledgerRules}
+use Rattle.model.specs.Ledger.{places, young, ledgerRules}
 use Rattle.model.specs.State.{Status, countRules, statusRules, sound}
-use Rattle.model.proofs.Aging.{AllNoted, all-young}
+use Rattle.model.proofs.Aging.{all-young}
 use Rattle.model.proofs.Sound.{SoundLast, test-last, forty-are-enough}
 use Rattle.model.proofs.SoundLedger.{SoundLedger, test-ledger}
 

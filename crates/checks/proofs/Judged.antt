@@ -80,7 +80,8 @@ module _ {h : Holding} (e : Engine h) (s : e .State) where
 
     -- all else being well, it goes by the ledger
     pub by-ledger : v .live ≡ 1 → v .oldway ≤ 1 → soundControl (v .control) ≡ true → passesEnd (v .clock .time) ≡ false
-        → lasting ≡ true → e .packed s && fitting ≡ true → allOf (countRules n (v .counts)) ≡ true → soundIn e s ≡ (e .kept s && noting)
+        → lasting ≡ true → e .packed s && fitting ≡ true → allOf (countRules n (v .counts)) ≡ true
+        → soundIn e s ≡ (e .kept s && noting)
     unfolding sound passesEnd
     by-ledger live way control time last waiting counts =
         all-but (e .packed s) (e .kept s) (eqb (v .live) 1) (leb (v .oldway) 1) (soundControl (v .control))

@@ -1,6 +1,6 @@
 -- A poll that is not refused: nothing waits, or the packet that may go waits for the wait or for the air, or it goes; and where
 -- it goes the ledger has room, since the state that it leaves is sound.
-use Prim.Native.Nat.{ℕ, _≤_, _<_, max}
+use Prim.Native.Nat.{ℕ, _<_, max}
 use mathlib.Core.Path.{_≡_, ap, ap₂, sym, _∙_}
 use mathlib.Core.Bool.{true, false}
 use mathlib.Core.List.{[], _∷_}

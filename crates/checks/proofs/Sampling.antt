@@ -1,7 +1,7 @@
 -- What a load makes of what samples steer: in profile 5 it is noted, and the level is that of the loads as noted; in every other
 -- nothing is noted, and the level told is not looked at.
 use Prim.Native.Nat.{ℕ}
-use mathlib.Core.Path.{_≡_, refl, ap, sym, _∙_}
+use mathlib.Core.Path.{_≡_, ap, _∙_}
 use mathlib.Core.List.{List}
 use borrow.Author.Tests.{ne-eqb, eq-eqb}
 use Rattle.machine.specs.declared.Loads.{Loads}

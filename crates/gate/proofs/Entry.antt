@@ -17,7 +17,7 @@ use Rattle.model.specs.declared.Answer.the-variants.{Refused}
 use Rattle.model.specs.declared.Offer.{Offer}
 use Rattle.model.specs.declared.Packet.{Packet}
 use Rattle.model.specs.Fours.{Four}
-use Rattle.model.specs.Calls.{Call, count, offer}
+use Rattle.model.specs.Calls.{count, offer}
 use Rattle.model.specs.Effects.{stepped}
 use Rattle.model.specs.Gate.{ownChecks, checks}
 use Rattle.checks.specs.declared.Request.{Request}

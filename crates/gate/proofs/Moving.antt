@@ -1,7 +1,7 @@
 -- The clock moved and what has aged dropped from the ledger, then the expired packets gone: the model's refreshed view, laid out.
 use Prim.Native.Nat.{ℕ, _-_, _≤_}
 use mathlib.Core.Path.{_≡_, refl, ap, ap₂, sym, _∙_, subst⁻¹}
-use mathlib.Core.Bool.{Bool, true, false, cond}
+use mathlib.Core.Bool.{true}
 use mathlib.Core.List.{List, [], _∷_, map}
 use native.Mathlib.Omega.{arith}
 use lib.ListN.{length}
@@ -23,7 +23,7 @@ use Rattle.ledger.specs.declared.Ledger.{Ledger}
 use Rattle.ledger.specs.Layout as ledger
 use Rattle.ledger.proofs.Settling.{list-length}
 use Rattle.checks.proofs.Engine.{says}
-use Rattle.waiting.specs.Layout.{Rows, rows, Held, queues, alive, countIn, waitingIn, rowsFor}
+use Rattle.waiting.specs.Layout.{Rows, rows, queues, alive, countIn, waitingIn, rowsFor}
 use Rattle.waiting.specs.Layout as fifo
 use Rattle.waiting.proofs.Meaning.{rows-alive, how-many, how-many-alive}
 use Rattle.gate.specs.declared.Head.{Head}

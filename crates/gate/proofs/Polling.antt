@@ -113,7 +113,8 @@ module _ (h : Head) (words came air waits : List ℕ) (g : Servable h words came
       module _ (y : n ≡ 0) where
         pub may-admit : Admissible h (rows words came) air k
         may-admit =
-            let room = room-left engine served (t .tight) (t .is-sound) (packetIn k c) rest (picked (At k c) z) n left y (g .kept) in
+            let room =
+            room-left engine served (t .tight) (t .is-sound) (packetIn k c) rest (picked (At k c) z) n left y (g .kept) in
             let len = list-length (h .last .at) (ledgerFor h air) (known served t .ledger-tight) in
             admissible served t k in-four (omega (arith, room, len))
 

@@ -20,7 +20,7 @@ use Rattle.model.proofs.Demand3.{demand3}
 use Rattle.checks.proofs.Engine.{state-sound, on-sound-call}
 use Rattle.gate.specs.declared.State.{State}
 use Rattle.gate.specs.declared.Outcome.{Outcome}
-use Rattle.gate.specs.Layout.{viewOf, stateOf, soundState, outcomeOf, callOn, makeState}
+use Rattle.gate.specs.Layout.{viewOf, stateOf, soundState, callOn, makeState}
 use Rattle.gate.specs.Runs.{RefusedUnchanged, UnsoundGetsNine, checksOn, RefusedExactly}
 use Rattle.gate.specs.Runs.{stateAfter, eventsOn, PollsRight, journalOn, Runs}
 use Rattle.gate.proofs.Views.{engine, said}
@@ -115,9 +115,6 @@ unfolding callOn
 unsound-gets-nine s c e = rw e
 
 -- demand 2 of states: on a sound one the table is the view's, and on any other its first row holds
-answer-laid : (s : State) (o : Result inQueues) → outcomeOf s o .answer ≡ o .answer
-answer-laid s o = on-cond (λ (x : Outcome). x .answer ≡ o .answer) (isRefused (o .answer)) (λ r. refl) (λ r. refl)
-
 checks-alike : (s : State) (c : Call) → soundState s ≡ true → checksOn s c ≡ checks (viewOf s) c
 unfolding checks
 checks-alike s c e =
@@ -130,7 +127,7 @@ refused-exactly s c n =
     (λ e.
     let x = refusals-are-exact (viewOf s) c n in
     let t = checks-alike s c e in
-    let a : callOn s c .answer ≡ call (viewOf s) c .answer = rw e (answer-laid s (call (viewOf s) c)) in (
+    let a = answer-read s c e in (
       λ r. subst⁻¹ (FirstHolds n) t (x .0 (sym a ∙ r)),
       λ h. a ∙ x .1 (subst (FirstHolds n) t h),
     ))

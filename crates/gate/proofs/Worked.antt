@@ -12,6 +12,10 @@ use Rattle.machine.specs.Levels.{levelsOf, noLevels}
 use Rattle.machine.specs.Loads as loads
 use Rattle.machine.specs.Loads.{noLoads}
 use Rattle.machine.specs.Moves.{reaches}
+use Rattle.control.specs.declared.Tuning.{Tuning}
+use Rattle.model.specs.declared.Clock.{Clock}
+use Rattle.model.specs.declared.Last.{Last}
+use Rattle.model.specs.declared.Counts.{Counts}
 use Rattle.model.specs.declared.Packet.{Packet}
 use Rattle.model.specs.declared.Admission.{Admission}
 use Rattle.model.specs.declared.Answer.the-variants.{Ready, Taken, Sent, Idle, Closed, Refused}
@@ -73,24 +77,30 @@ offer-laid-out :
 unfolding of-states
 offer-laid-out = (refl, refl, refl, refl)
 
+-- a head, its numbers in order
+abbrev head : Clock → Last → Counts → Tuning → (profile oldway live admissions loads levels calm : ℕ) → Head
+head clock last counts tuning profile oldway live admissions loads levels calm =
+    record {
+      clock = clock;
+      last = last;
+      counts = counts;
+      tuning = tuning;
+      profile = profile;
+      oldway = oldway;
+      live = live;
+      admissions = admissions;
+      loads = loads;
+      levels = levels;
+      calm = calm;
+    }
+
 -- rows read: two packets of queue 1 and one of queue 3, all their numbers different
 abbrev read : State
 read =
     let s = fresh 1 in
     stateWith
-    (record {
-      clock = record { time = 90; stamp = 7 };
-      last = s .head .last;
-      counts = record { accepted = 3; sent = 0; expired = 0; displaced = 0 };
-      tuning = s .head .tuning;
-      profile = 1;
-      oldway = 0;
-      live = 1;
-      admissions = 0;
-      loads = 0;
-      levels = 0;
-      calm = 0;
-    })
+    (head (record { time = 90; stamp = 7 }) (s .head .last)
+    (record { accepted = 3; sent = 0; expired = 0; displaced = 0 }) (s .head .tuning) 1 0 1 0 0 0 0)
     (zeros 16 ++ (2 ∷ 11 ∷ 301 ∷ 5001 ∷ 12 ∷ 302 ∷ 5002 ∷ zeros 9) ++ zeros 16 ++ (1 ∷ 13 ∷ 303 ∷ 5003 ∷ zeros 12))
     (zeros 5 ++ (21 ∷ 22 ∷ zeros 3) ++ zeros 5 ++ (23 ∷ zeros 4)) (s .air) (s .loads) (s .above) (s .waits)
 
@@ -218,19 +228,10 @@ abbrev bound : (profile : ℕ) → State
 bound profile =
     let s = fresh profile in
     stateWith
-    (record {
-      clock = record { time = 900000; stamp = 0 };
-      last = record { at = 725000; ontime = 1000; admitted = 1 };
-      counts = record { accepted = 1; sent = 0; expired = 0; displaced = 0 };
-      tuning = record { level = 0; duty = 30000000; smoothed = 0; kept = 0; pairing = 0; latest = 0 };
-      profile = profile;
-      oldway = 0;
-      live = 1;
-      admissions = 30;
-      loads = 0;
-      levels = s .head .levels;
-      calm = s .head .calm;
-    })
+    (head (record { time = 900000; stamp = 0 }) (record { at = 725000; ontime = 1000; admitted = 1 })
+    (record { accepted = 1; sent = 0; expired = 0; displaced = 0 })
+    (record { level = 0; duty = 30000000; smoothed = 0; kept = 0; pairing = 0; latest = 0 }) profile 0 1 30 0 (s .head .levels)
+    (s .head .calm))
     (1 ∷ 1 ∷ 9 ∷ 60000000 ∷ zeros 60) (zeros 20) (ledger.packed 725000 (thirty 30 0) .slots) (s .loads) (s .above) (s .waits)
 
 binds-in-every-profile :
@@ -266,19 +267,8 @@ abbrev beside : (profile : ℕ) → Loads → Levels → State
 beside profile held levels =
     let s = fresh 1 in
     stateWith
-    (record {
-      clock = s .head .clock;
-      last = s .head .last;
-      counts = s .head .counts;
-      tuning = s .head .tuning;
-      profile = profile;
-      oldway = 0;
-      live = 1;
-      admissions = 0;
-      loads = held .len;
-      levels = levels .len;
-      calm = levels .wait;
-    })
+    (head (s .head .clock) (s .head .last) (s .head .counts) (s .head .tuning) profile 0 1 0 (held .len) (levels .len)
+    (levels .wait))
     (s .queues) (s .came) (s .air) (held .slots) (levels .above) (levels .waits)
 
 abbrev one : Loads
@@ -310,23 +300,18 @@ made-with-a-list :
 unfolding of-states
 made-with-a-list = (refl, refl, refl)
 
+abbrev none-admitted : Last
+none-admitted = record { at = 0; ontime = 0; admitted = 0 }
+
+abbrev none-counted : Counts
+none-counted = record { accepted = 0; sent = 0; expired = 0; displaced = 0 }
+
 -- "Make's refusal hands back the all-zero, not live state."
 abbrev nothing : State
 nothing =
     stateWith
-    (record {
-      clock = record { time = 0; stamp = 0 };
-      last = record { at = 0; ontime = 0; admitted = 0 };
-      counts = record { accepted = 0; sent = 0; expired = 0; displaced = 0 };
-      tuning = record { level = 0; duty = 0; smoothed = 0; kept = 0; pairing = 0; latest = 0 };
-      profile = 0;
-      oldway = 0;
-      live = 0;
-      admissions = 0;
-      loads = 0;
-      levels = 0;
-      calm = 0;
-    })
+    (head (record { time = 0; stamp = 0 }) none-admitted none-counted
+    (record { level = 0; duty = 0; smoothed = 0; kept = 0; pairing = 0; latest = 0 }) 0 0 0 0 0 0 0)
     (zeros 64) (zeros 20) (zeros 40) (zeros 50) (zeros 8) (zeros 8)
 
 refused-make :
@@ -340,19 +325,9 @@ refused-make = (refl, refl)
 -- every profile and way has its head
 abbrev startsWith : (profile oldway : ℕ) → Head
 startsWith profile oldway =
-    record {
-      clock = record { time = 0; stamp = 7 };
-      last = record { at = 0; ontime = 0; admitted = 0 };
-      counts = record { accepted = 0; sent = 0; expired = 0; displaced = 0 };
-      tuning = record { level = 0; duty = 600000; smoothed = 0; kept = 0; pairing = 0; latest = 0 };
-      profile = profile;
-      oldway = oldway;
-      live = 1;
-      admissions = 0;
-      loads = 0;
-      levels = cond (eqb profile 5) 2 0;
-      calm = cond (eqb profile 5) 60000 0;
-    }
+    head (record { time = 0; stamp = 7 }) none-admitted none-counted
+    (record { level = 0; duty = 600000; smoothed = 0; kept = 0; pairing = 0; latest = 0 }) profile oldway 1 0 0
+    (cond (eqb profile 5) 2 0) (cond (eqb profile 5) 60000 0)
 
 fresh-heads :
     map (λ (p : ℕ). map (λ (way : ℕ). makeState (makingOf p way two 7) .state .head) (0 ∷ 1 ∷ [])) profiles

@@ -2,9 +2,9 @@
 -- same go on saying the same, call by call and record by record of a burst, and demand 3 carries over.
 use Prim.Native.Nat.{ℕ, zero, suc, _*_}
 use mathlib.Core.Path.{_≡_, refl, ap, ap₂, sym, _∙_, subst⁻¹}
-use mathlib.Core.Bool.{Bool, true, false, cond}
+use mathlib.Core.Bool.{true, cond}
 use mathlib.Core.List.{List, [], _∷_, _++_}
-use Rattle.rules.proofs.Cases.{split, on-cond}
+use Rattle.rules.proofs.Cases.{split}
 use Rattle.model.specs.declared.Answer.{Answer}
 use Rattle.model.specs.declared.Answer.the-variants.{Ready}
 use Rattle.model.specs.Queues.{inQueues}
@@ -32,7 +32,7 @@ use Rattle.calllog.specs.Bursts as gate-bursts
 use Rattle.calllog.proofs.Bursting.{runs-with-bursts}
 use Rattle.plain.specs.declared.State.{State}
 use Rattle.plain.specs.declared.Outcome.{Outcome}
-use Rattle.plain.specs.Layout.{viewOf, stateOf, soundState, callOn, makeState}
+use Rattle.plain.specs.Layout.{viewOf, soundState, callOn, makeState}
 use Rattle.plain.specs.Bursts.{offeredBy, offeredTo, answersTo, burstState, burstAnswers}
 use Rattle.plain.specs.Bursts.{moved, heardOf, movedAll, allHeard}
 use Rattle.plain.specs.Runs.{SameMoves, SoundStatesAgree, PollsRight, journalHeard, SameRun, Agrees}

@@ -1,5 +1,5 @@
 -- One check after the other.
-use mathlib.Core.Path.{_≡_, sym, _∙_, ap}
+use mathlib.Core.Path.{sym, _∙_, ap}
 use borrow.Author.Needs.{needs}
 use Rattle.rules.specs.Clock.{passesEnd, goesBack}
 use Rattle.model.specs.declared.Clock.{Clock}

@@ -1,6 +1,5 @@
 -- The front packet leaves its queue and is noted, as the last admission and in the ledger.
-use mathlib.Core.Path.{_≡_, sym, _∙_, ap, refl}
-use native.Mathlib.Omega.{arith}
+use mathlib.Core.Path.{_∙_, refl}
 use borrow.Author.Needs.{needs}
 use Rattle.waiting.specs.Layout.{rows}
 use Rattle.waiting.proofs.Meaning.{rows-popped}

@@ -1,6 +1,6 @@
 -- By the profile; one test after the other.
 use mathlib.Core.Path.{sym, _∙_}
-use mathlib.Core.Bool.{and-false, and-true}
+use mathlib.Core.Bool.{and-false}
 use borrow.Author.Needs.{needs}
 use borrow.Author.Tests.{eq-eqb, ne-eqb, not-true, not-false}
 use Rattle.machine.specs.Levels.{noneListed}

@@ -1,6 +1,5 @@
 -- Where five wait the front one leaves; then the packet is at the back.
 use mathlib.Core.Path.{refl}
-use native.Mathlib.Omega.{arith}
 use borrow.Author.Needs.{needs}
 use Rattle.gate.proofs.Offering.{few-gone, joins}
 use Rattle.gate.proofs.Head.join.Statement.{statement}

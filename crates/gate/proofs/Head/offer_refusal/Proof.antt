@@ -1,5 +1,4 @@
 -- Its own numbers; then the two rows of the table, in their order.
-use Prim.Native.Nat.{ℕ}
 use mathlib.Core.Path.{_≡_, sym, _∙_}
 use mathlib.Core.List.{List}
 use native.Mathlib.Omega.{arith}

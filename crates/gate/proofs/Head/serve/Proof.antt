@@ -25,7 +25,8 @@ found e = e .before .before .before .before
 
 -- what an admission leaves
 left : (c : tie.After-admit) → let s = start (found (c .before .before .before .before .before)) in let l = c .admit .last in
-    Settled (stateWith (c .admit .result) (l .1 .0) (l .1 .1 .0) (l .1 .1 .1 .0) (s .pre .loads) (s .pre .above) (s .args .waits .now))
+    Settled (stateWith (c .admit .result) (l .1 .0) (l .1 .1 .0) (l .1 .1 .1 .0) (s .pre .loads) (s .pre .above)
+    (s .args .waits .now))
 left c =
     let e = c .before .before .before .before .before in
     let f = found e in

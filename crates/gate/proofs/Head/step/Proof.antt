@@ -22,8 +22,8 @@ returns c =
     let at-is-sound = c .before .before in
     let s = at-is-sound .before .before .before .before .before .before .before .before .before .before .before in
     turned _ _ _ _ _ _ _ _ _ _ (c .answered .ensures)
-    (unsound engine (given s) (callOf (s .args .request) (s .args .stamp)) (sym (at-is-sound .is-sound .ensures .0) ∙ not-true _ (c
-    .before .if1 .taken)))
+    (unsound engine (given s) (callOf (s .args .request) (s .args .stamp))
+    (sym (at-is-sound .is-sound .ensures .0) ∙ not-true _ (c .before .if1 .taken)))
 
 step-sound-requires : tie.Need-step-sound-requires
 step-sound-requires c κs =

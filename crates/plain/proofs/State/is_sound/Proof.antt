@@ -1,10 +1,8 @@
 -- One group after the other: the first that fails makes the state unsound, and the ledger decides.
 use Prim.Native.Nat.{_≤_}
-use mathlib.Core.Path.{_≡_, sym, _∙_}
-use mathlib.Core.Bool.{true}
+use mathlib.Core.Path.{sym, _∙_}
 use native.Mathlib.Omega.{arith}
-use lib.Dec.{leb}
-use borrow.Author.Tests.{le-leb, not-true, not-false}
+use borrow.Author.Tests.{not-true, not-false}
 use Rattle.plain.proofs.Known.{forty-of}
 use Rattle.ledger.proofs.Sound.{sound-packed}
 use Rattle.ledger.specs.Layout.{soundLedger}

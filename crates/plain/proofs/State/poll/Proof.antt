@@ -66,7 +66,8 @@ refresh-requires c κs = (c .before .refusal .ensures .1 (c .if1 .left), sound-v
 returns-2 : tie.Need-returns-2
 returns-2 c =
     let a = c .before .before in
-    idles engine (a .refresh .result) (then a .0) (then a .1) (picks-none _ (known _ (then a) .tight) (c .if2 .taken)) ∙ is-polled a
+    idles engine (a .refresh .result) (then a .0) (then a .1) (picks-none _ (known _ (then a) .tight) (c .if2 .taken))
+    ∙ is-polled a
 
 pick-requires : tie.Need-pick-requires
 pick-requires c κs = search needs
@@ -87,7 +88,8 @@ admit-requires c κs =
     let b = c .before .before in
     let a = b .before .before .before in
     let s = a .before .before .before in
-    let kept = poll-keeps engine (s .args .self) (a .refresh .result) (s .args .stamp) (enters (a .before)) (a .refresh .ensures) in
+    let kept =
+    poll-keeps engine (s .args .self) (a .refresh .result) (s .args .stamp) (enters (a .before)) (a .refresh .ensures) in
     let room = room-left engine (a .refresh .result) (then a .0) (then a .1) _ _ (picks b) _ (c .before .left-for .ensures)
     (c .if3 .left) kept in
     (then a, omega (arith, room, list-length _ _ (known _ (then a) .ledger-tight)))
