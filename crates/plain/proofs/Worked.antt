@@ -1,5 +1,5 @@
--- Profile 5 on states as the plain engine holds them (document 02, W-213): the definitions run, and each side computes to the
--- other.
+-- Profile 5, and CLOSED asked again, on states as the plain engine holds them (document 02, W-213, W-207): the definitions run,
+-- and each side computes to the other.
 use Prim.Native.Nat.{ℕ}
 use mathlib.Core.Path.{_≡_, refl}
 use mathlib.Core.List.{List, [], _∷_, _++_, map}
@@ -10,9 +10,10 @@ use Rattle.machine.specs.declared.Loads.{Loads}
 use Rattle.machine.specs.Levels.{levelsOf, noLevels}
 use Rattle.machine.specs.Loads.{loadsOf, noLoads}
 use Rattle.control.specs.Control.{controlOf, freshTuning}
-use Rattle.model.specs.declared.Answer.the-variants.{Ready, Idle, Refused}
+use Rattle.model.specs.declared.Packet.{Packet}
+use Rattle.model.specs.declared.Answer.the-variants.{Ready, Sent, Idle, Closed, Refused}
 use Rattle.model.specs.Calls.{count, poll, makingOf}
-use Rattle.model.specs.State.{blank}
+use Rattle.model.specs.State.{statusFrom, blank}
 use Rattle.model.proofs.Computing.{of-runs}
 use Rattle.ledger.specs.Layout as ledger
 use Rattle.line.specs.Line.{countOf, best, without, picked}
@@ -75,3 +76,22 @@ noting = refl
 noting-5 : callOn (beside 5 one two) (count 7 1000 1000) .state .loads ≡ loadsOf 2 (1 ∷ 1000000 ∷ replicate 48 0)
 unfolding of-states beside two one
 noting-5 = refl
+
+abbrev warning : Packet
+warning = record { id = 2; priority = 0; ontime = 1; lifetime = 60000000; arrival = 0 }
+
+-- "Ask again so many µs later, and the packet goes; ask a µs sooner, and it doesn't" (the label): a packet of 1,000 µs has gone,
+-- one more waits, and the stamps pass 2^32 between the two polls
+shut : State
+shut =
+    stateOf
+    (statusFrom 1 0 (record { time = 0; stamp = 4294967295 }) (controlOf 1 freshTuning noLevels noLoads)
+    (record { at = 0; ontime = 1000; admitted = 1 }) (record { at = 0; ontime = 1000 } ∷ [])
+    (record { accepted = 2; sent = 1; expired = 0; displaced = 0 }) (warning ∷ []))
+
+closed-then-asked :
+    (callOn shut (poll 4294967295) .answer ≡ Closed 101000)
+    × (map (λ (later : ℕ). callOn (callOn shut (poll 4294967295) .state) (poll later) .answer) (100998 ∷ 100999 ∷ [])
+    ≡ Closed 1 ∷ Sent warning ∷ [])
+unfolding of-states shut
+closed-then-asked = (refl, refl)
