@@ -100,9 +100,9 @@ module _ {load samples ontime : ℕ} (c : Calm load samples ontime) where
 pub calm-floors : CalmFloors
 calm-floors load samples ontime c =
     record {
-      with-room = λ stamp accepted some late room.
+      with-room = λ stamp room accepted some late.
           goes-with-room ontime (ended c) (short c) stamp some (over c _ (all-after (floorOf c) _ (admitted c) late)) room
           accepted;
-      always = λ room stamp accepted some late none.
+      always = λ room stamp accepted some late.
           opens-calmly c room .sends stamp accepted some (all-after (floorOf c) _ (admitted c) late);
     }

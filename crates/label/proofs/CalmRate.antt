@@ -16,17 +16,20 @@ use Rattle.rules.proofs.Ceiling.{ceil-reaches}
 use Rattle.control.specs.Owed.{second, quiet}
 use Rattle.model.specs.Calls.{Call, offer}
 use Rattle.model.specs.Claims.{mostInSecond}
+use Rattle.model.specs.Delivery.{SendsAfter}
+use Rattle.model.proofs.Delivery.{delivery-by}
 use Rattle.label.specs.Trailer.{Run, viewAtEnd, journal, onward, messagesIn}
+use Rattle.label.specs.Priorities.{withOffer}
 use Rattle.label.specs.Calm.{alwaysRoom, Calm, settled, floorOf}
 use Rattle.label.specs.CalmRate.{inASecond, calmEach, calmOnce, CalmRate, timesIn, messagesBy}
-use Rattle.label.specs.CalmRate.{CalmMessages, asWait, CalmWaits}
+use Rattle.label.specs.CalmRate.{CalmMessages, asWait, CalmWaits, CalmDelivery}
 use Rattle.label.proofs.Steps.{Timely}
 use Rattle.label.proofs.Room.{after-due, aged-due}
 use Rattle.label.proofs.Pace.{fit}
-use Rattle.label.proofs.Rate.{pace-by, rate-of-obeying, polled-obeys, quotient-most}
-use Rattle.label.proofs.Priorities.{offered, waits-by}
+use Rattle.label.proofs.Rate.{behind, pace-by, rate-of-obeying, polled-obeys, quotient-most}
+use Rattle.label.proofs.Priorities.{waits-by}
 use Rattle.label.proofs.Following.{part}
-use Rattle.label.proofs.Calm.{opens-calmly, opens-later}
+use Rattle.label.proofs.Calm.{opens-calmly, opens-later, calm-floors}
 
 module _ {load samples ontime : ℕ} (late : ℕ) (c : Calm load samples ontime) where
   abbrev profile : ℕ
@@ -140,13 +143,27 @@ pub calm-waits : CalmWaits
 calm-waits load samples ontime p w =
     let c = w .calm in
     let asked = offer (w .stamp) (w .packet) in
-    let start = journal (offered (asWait w)) .time in
-    let had = length (journal (offered (asWait w)) .admissions) in
+    let start = journal (withOffer (asWait w)) .time in
+    let had = length (journal (withOffer (asWait w)) .admissions) in
     waits-by (once p c) (each p c) p (asWait w)
     (λ s.
-    pace-by p (once p c) (each p c) (short p c) (offered (asWait w)) (w .behind)
+    pace-by p (once p c) (each p c) (short p c) (withOffer (asWait w)) (w .behind)
     (λ ds es e.
     subst (λ (r : Run). Timely p start (once p c) (each p c) had (viewAtEnd r) (journal r))
     (onward-twice (settled c) (asked ∷ []) ds)
     (in-time p c (asked ∷ ds) es (w .calls ∙ ap (λ (ks : List Call). asked ∷ ks) e) start had))
-    (polled-obeys p (record { before = offered (asWait w); during = w .behind; served = s })))
+    (polled-obeys p (record { before = withOffer (asWait w); during = w .behind; served = s })))
+
+-- the calm floor is kept from the offer on
+pub calm-delivery : CalmDelivery
+unfolding part
+calm-delivery load samples ontime p w room urgent =
+    let c = w .calm in
+    let asked = offer (w .stamp) (w .packet) in
+    delivery-by (floorOf c) (c .before .making) p (w .stamp) (w .packet) (settled c .calls) (w .behind) (c .before .ready) urgent
+    (w .taken)
+    (λ cs ds e stamp.
+    let there = part c (asked ∷ cs) ds (w .calls ∙ ap (λ (ks : List Call). asked ∷ ks) e) in
+    behind (SendsAfter (floorOf c) stamp) (withOffer (asWait w)) cs
+    (subst (λ (r : Run). SendsAfter (floorOf c) stamp (viewAtEnd r) (journal r)) (onward-twice (settled c) (asked ∷ []) cs)
+    (calm-floors load samples ontime there .always room stamp)))

@@ -27,7 +27,8 @@ use Rattle.model.proofs.Fours.{column-change, column-each}
 use Rattle.model.proofs.Displacing.{picked-length, on-room}
 use Rattle.model.proofs.Runs.{runs-are-their-parts}
 use Rattle.label.specs.Trailer.{Run, viewAtEnd, journal, onward, answered, timeOf, messagesIn, Served}
-use Rattle.label.specs.Priorities.{below, Wait, callsSince, whenItCame, sinceItCame, its, before, meanwhile, waited}
+use Rattle.label.specs.Priorities.{below, Wait, withOffer, callsSince, whenItCame, sinceItCame, its, before, meanwhile}
+use Rattle.label.specs.Priorities.{waited}
 use Rattle.label.specs.Priorities.{WaitsStill, ServedSince, InItsTurn, WaitsAtMost, WaitsAmongOthers, AmongWarnings}
 use Rattle.label.proofs.Rate.{rate}
 
@@ -255,14 +256,10 @@ in-its-turn w h =
     ahead-on (q w) (its w .ordinal) (below (q w) (whenItCame w .offers)) (bound w) (whenItCame w) (callsSince w) (came w) in
     omega (arith, placed-among (its w .ordinal) _ _ (its w) (column (q w) (sinceItCame w .columns)) (omega arith) (a .placed) h)
 
--- the run that ends with the offer
-abbrev pub offered : Wait → Run
-offered w = onward (w .run) (offer (w .stamp) (w .packet) ∷ [])
-
 -- a rate from the offer on
 module _ (once each p : ℕ) (w : Wait)
-    (rate : Served p (journal (offered w) .time) (journal (offered w)) (answered (offered w) (w .during))
-    → timeOf (offered w) (w .during) ≤ once + suc (messagesIn (offered w) (w .during)) * each) where
+    (rate : Served p (journal (withOffer w) .time) (journal (withOffer w)) (answered (withOffer w) (w .during))
+    → timeOf (withOffer w) (w .during) ≤ once + suc (messagesIn (withOffer w) (w .during)) * each) where
   abbrev Lasts : View → Journal → Type 0
   Lasts v j =
       Served p (j .time) j (events v (w .during))
@@ -279,7 +276,7 @@ module _ (once each p : ℕ) (w : Wait)
       runs-are-their-parts (make (w .run .making) .view) (opened (w .run .making .stamp)) (w .run .calls)
       (offer (w .stamp) (w .packet) ∷ []) in
       subst (λ (a : Answer). Lasts right (fed (journal (w .run)) (offer (w .stamp) (w .packet)) a)) (w .taken)
-      (subst (Lasts right) (whole .1) (subst (λ (v : View). Lasts v (journal (offered w))) (whole .0) rate))
+      (subst (Lasts right) (whole .1) (subst (λ (v : View). Lasts v (journal (withOffer w))) (whole .0) rate))
 
   pub waits-by : ServedSince p w → WaitsStill w → waited w ≤ once + suc (before w + meanwhile w) * each
   waits-by s h = omega (arith, lasts-since s, mul-le-mul-right each (more (in-its-turn w h)))
@@ -293,7 +290,7 @@ waits-at-most p w s h =
     omega (
       arith,
       waits-by 0 each p w
-          (λ q. omega (arith, rate p (record { before = offered w; during = w .during; served = q }))) s h,
+          (λ q. omega (arith, rate p (record { before = withOffer w; during = w .during; served = q }))) s h,
     )
 
 -- others take f of each f + g µs

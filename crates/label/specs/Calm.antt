@@ -18,15 +18,12 @@ use Rattle.machine.specs.declared.Levels.{Levels}
 use Rattle.machine.specs.Levels as listing
 use Rattle.machine.specs.Moves.{highest}
 use Rattle.control.specs.Owed.{second}
-use Rattle.model.specs.declared.Packet.{Packet}
-use Rattle.model.specs.declared.Admission.{Admission}
 use Rattle.model.specs.declared.Answer.{Answer}
-use Rattle.model.specs.declared.Answer.the-variants.{Sent}
 use Rattle.model.specs.Calls.{Call, words, count, offer, poll, Making, isRefused}
 use Rattle.model.specs.Ledger.{airOf}
-use Rattle.model.specs.Gate.{call}
 use Rattle.model.specs.Journal.{Entry, turned, atPoll, top, lastSecond}
 use Rattle.model.specs.Claims.{All, mostInSecond}
+use Rattle.model.specs.Delivery.{SendsAfter}
 use Rattle.label.specs.Trailer.{Run, viewAtEnd, told, journal, onward, answered}
 
 -- What a run tells of the channel and of its packets.
@@ -155,22 +152,13 @@ HasRoom r stamp =
 abbrev pub alwaysRoom : (profile ontime : ℕ) → Bool
 alwaysRoom profile ontime = leb (ontime * ceilDiv second (limitsOf profile .leastwait)) mostInSecond
 
--- a floor: an accepted poll that finds an unexpired packet sends one, where every earlier admission is so
--- long ago or longer, and what else is asked of it is so
-abbrev pub SendsAfter : (floor : ℕ) → Run → (Asked : Run → ℕ → Type 0) → Type 0
-SendsAfter floor r Asked =
-    (stamp : ℕ) → isRefused (call (viewAtEnd r) (poll stamp) .answer) ≡ false
-    → (top (atPoll (journal r) stamp .columns) ≡ [] → ⊥)
-    → All (λ (a : Admission). a .at + floor ≤ turned (journal r) stamp .time) (journal r .admissions)
-    → Asked r stamp
-    → (p : Packet) × (call (viewAtEnd r) (poll stamp) .answer ≡ Sent p)
-
 -- at the end of a calm run, and so at any point of one: the calm floor where the second has room, and by
 -- itself where it always has
 pub record CalmFloor {load samples ontime : ℕ} (c : Calm load samples ontime) : Type 0 where
-  pub with-room : SendsAfter (floorOf c) (ended c) HasRoom
+  pub with-room : (stamp : ℕ) → HasRoom (ended c) stamp
+      → SendsAfter (floorOf c) stamp (viewAtEnd (ended c)) (journal (ended c))
   pub always : alwaysRoom (c .before .making .profile) ontime ≡ true
-      → SendsAfter (floorOf c) (ended c) (λ r stamp. Unit {0})
+      → (stamp : ℕ) → SendsAfter (floorOf c) stamp (viewAtEnd (ended c)) (journal (ended c))
 
 abbrev pub CalmFloors : Type 0
 CalmFloors = (load samples ontime : ℕ) (c : Calm load samples ontime) → CalmFloor c

@@ -2,7 +2,7 @@
 -- (docs/LABEL.md, "On a calm channel").
 use Prim.Native.Nat.{ℕ, suc, _+_, _-_, _*_, _/_, _≤_, _<_, max}
 use mathlib.Core.Path.{_≡_}
-use mathlib.Core.Bool.{cond}
+use mathlib.Core.Bool.{true, cond}
 use mathlib.Core.List.{List, [], _∷_}
 use lib.ListN.{length}
 use Rattle.rules.specs.Wait.{ceilDiv}
@@ -14,8 +14,10 @@ use Rattle.model.specs.Calls.{Call, offer, Making}
 use Rattle.model.specs.Gate.{call}
 use Rattle.model.specs.Journal.{Journal, fed}
 use Rattle.model.specs.Claims.{mostInSecond}
+use Rattle.model.specs.Delivery.{OfferedBy}
 use Rattle.label.specs.Trailer.{Run, viewAtEnd, journal, answered, timeOf, messagesIn, ObeysFrom}
-use Rattle.label.specs.Priorities.{Wait, WaitsStill, ServedSince, before, meanwhile, waited}
+use Rattle.label.specs.Priorities.{Wait, withOffer, its, WaitsStill, before, meanwhile, ServedSince}
+use Rattle.label.specs.Priorities.{waited}
 use Rattle.label.specs.Calm.{acceptedLoad, loadsSince, alwaysRoom, calmFloor, Calm, settled, floorOf}
 
 -- so many packets of an on-time fit into a second
@@ -96,6 +98,17 @@ CalmWaits =
     ≤ calmOnce (w .calm .before .making .profile) ontime
     + suc (before (asWait w) + meanwhile (asWait w))
     * calmEach (w .calm .before .making .profile) (floorOf (w .calm)) ontime p
+
+-- "(k + 1) x (Q + p)" for a warning with k before it, which is sent by then, and neither expires nor is
+-- displaced: with the conditions of "How long may a lane-closure warning wait?", where the second always has
+-- room
+abbrev pub CalmDelivery : Type 0
+CalmDelivery =
+    (load samples ontime p : ℕ) (w : CalmWait load samples ontime)
+    → alwaysRoom (w .calm .before .making .profile) ontime ≡ true
+    → w .packet .priority ≡ 0
+    → OfferedBy (floorOf (w .calm)) (w .calm .before .making) p (its (asWait w))
+    (viewAtEnd (withOffer (asWait w))) (journal (withOffer (asWait w))) (w .behind)
 
 -- How soon after a jam.
 
