@@ -4,7 +4,7 @@
 use Prim.Native.Nat.{ℕ, zero, suc, _+_, _-_, _*_, _≤_, _<_}
 use mathlib.Core.Path.{_≡_, refl, ap, sym, subst}
 use mathlib.Core.Bool.{Bool, not}
-use mathlib.Core.List.{List, [], _∷_, _++_}
+use mathlib.Core.List.{List, [], _∷_}
 use mathlib.Core.Logic.{inl, inr}
 use native.Mathlib.Nat.{suc-mul, add-mul, mul-add, mul-comm, mul-assoc, mul-le-mul-right, le-div-iff-mul-le}
 use native.Mathlib.Omega.{arith}
@@ -26,9 +26,10 @@ use Rattle.model.specs.Delivery.{Among}
 use Rattle.model.proofs.Fours.{column-change, column-each}
 use Rattle.model.proofs.Displacing.{picked-length, on-room}
 use Rattle.model.proofs.Runs.{runs-are-their-parts}
-use Rattle.label.specs.Trailer.{Run, viewAtEnd, journal, Served}
-use Rattle.label.specs.Priorities.{below, Wait, callsSince, whenItCame, sinceItCame, its, before, meanwhile, waited}
-use Rattle.label.specs.Priorities.{InItsTurn, WaitsAtMost, WaitsAmongOthers, AmongWarnings}
+use Rattle.label.specs.Trailer.{Run, viewAtEnd, journal, onward, answered, timeOf, messagesIn, Served}
+use Rattle.label.specs.Priorities.{below, Wait, withOffer, callsSince, whenItCame, sinceItCame, its, before, meanwhile}
+use Rattle.label.specs.Priorities.{waited}
+use Rattle.label.specs.Priorities.{WaitsStill, ServedSince, InItsTurn, WaitsAtMost, WaitsAmongOthers, AmongWarnings}
 use Rattle.label.proofs.Rate.{rate}
 
 -- the entries of a column up to an ordinal, each with n and its place in the column at most m
@@ -255,25 +256,15 @@ in-its-turn w h =
     ahead-on (q w) (its w .ordinal) (below (q w) (whenItCame w .offers)) (bound w) (whenItCame w) (callsSince w) (came w) in
     omega (arith, placed-among (its w .ordinal) _ _ (its w) (column (q w) (sinceItCame w .columns)) (omega arith) (a .placed) h)
 
--- the rate, from the offer on
-module _ (p : ℕ) (w : Wait) where
-  abbrev onward : Run
-  onward =
-      record {
-        making = w .run .making;
-        calls = w .run .calls ++ (offer (w .stamp) (w .packet) ∷ []);
-        ready = w .run .ready;
-      }
-
+-- a rate from the offer on
+module _ (once each p : ℕ) (w : Wait)
+    (rate : Served p (journal (withOffer w) .time) (journal (withOffer w)) (answered (withOffer w) (w .during))
+    → timeOf (withOffer w) (w .during) ≤ once + suc (messagesIn (withOffer w) (w .during)) * each) where
   abbrev Lasts : View → Journal → Type 0
   Lasts v j =
       Served p (j .time) j (events v (w .during))
       → journalOf j (events v (w .during)) .time - j .time
-      ≤ suc (length (journalOf j (events v (w .during)) .admissions) - length (j .admissions))
-      * (quiet (w .run .making .profile) + p)
-
-  lasts-onward : Lasts (viewAtEnd onward) (journal onward)
-  lasts-onward s = rate p (record { before = onward; during = w .during; served = s })
+      ≤ once + suc (length (journalOf j (events v (w .during)) .admissions) - length (j .admissions)) * each
 
   abbrev right : View
   right = call (viewAtEnd (w .run)) (offer (w .stamp) (w .packet)) .view
@@ -285,18 +276,22 @@ module _ (p : ℕ) (w : Wait) where
       runs-are-their-parts (make (w .run .making) .view) (opened (w .run .making .stamp)) (w .run .calls)
       (offer (w .stamp) (w .packet) ∷ []) in
       subst (λ (a : Answer). Lasts right (fed (journal (w .run)) (offer (w .stamp) (w .packet)) a)) (w .taken)
-      (subst (Lasts right) (whole .1) (subst (λ (v : View). Lasts v (journal onward)) (whole .0) lasts-onward))
+      (subst (Lasts right) (whole .1) (subst (λ (v : View). Lasts v (journal (withOffer w))) (whole .0) rate))
+
+  pub waits-by : ServedSince p w → WaitsStill w → waited w ≤ once + suc (before w + meanwhile w) * each
+  waits-by s h = omega (arith, lasts-since s, mul-le-mul-right each (more (in-its-turn w h)))
+    where
+      more : {m n : ℕ} → m ≤ n → suc m ≤ suc n
+      more k = omega arith
 
 pub waits-at-most : WaitsAtMost
 waits-at-most p w s h =
+    let each = quiet (w .run .making .profile) + p in
     omega (
       arith,
-      lasts-since p w s,
-      mul-le-mul-right (quiet (w .run .making .profile) + p) (more (in-its-turn w h)),
+      waits-by 0 each p w
+          (λ q. omega (arith, rate p (record { before = withOffer w; during = w .during; served = q }))) s h,
     )
-  where
-    more : {m n : ℕ} → m ≤ n → suc m ≤ suc n
-    more k = omega arith
 
 -- others take f of each f + g µs
 share : (t f g b m : ℕ) → t ≤ suc (b + m) * f → m * (f + g) ≤ t + (f + g) → t * g ≤ (b + 2) * f * (f + g)

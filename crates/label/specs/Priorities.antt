@@ -14,7 +14,7 @@ use Rattle.model.specs.Gate.{call}
 use Rattle.model.specs.Journal.{Entry, Journal, fed, journalOf}
 use Rattle.model.specs.Claims.{events}
 use Rattle.model.specs.Delivery.{Among, offeredEntry}
-use Rattle.label.specs.Trailer.{Run, viewAtEnd, journal, Served}
+use Rattle.label.specs.Trailer.{Run, viewAtEnd, journal, onward, Served}
 
 -- how many are of a lower number than a priority: those go before it
 abbrev pub below : {A : Type 0} → (priority : ℕ) → Four A → ℕ
@@ -30,6 +30,10 @@ pub record Wait : Type 0 where
   pub packet : Offer
   pub taken : call (viewAtEnd run) (offer stamp packet) .answer ≡ Taken
   pub during : List Call
+
+-- the run with its offer
+abbrev pub withOffer : Wait → Run
+withOffer w = onward (w .run) (offer (w .stamp) (w .packet) ∷ [])
 
 -- the calls behind it, with their answers
 abbrev pub callsSince : Wait → List (Call × Answer)
