@@ -1,14 +1,19 @@
 -- CLOSED, asked again: a sound state's polls read as its view's.
-use Prim.Native.Nat.{ℕ}
+use Prim.Native.Nat.{ℕ, _+_, _-_, _%_, _≤_, _<_}
 use mathlib.Core.Path.{_≡_, refl, ap}
+use mathlib.Core.Bool.{cond}
 use mathlib.Core.List.{[], _∷_, map}
+use lib.Dec.{leb}
+use borrow.Author.Tests.{lt-ltb}
 use Rattle.machine.specs.Levels.{noLevels}
 use Rattle.machine.specs.Loads.{noLoads}
 use Rattle.machine.specs.Moves.{reaches}
 use Rattle.control.specs.Control.{controlOf, freshTuning}
 use Rattle.model.specs.declared.Packet.{Packet}
 use Rattle.model.specs.declared.Answer.the-variants.{Sent, Closed}
-use Rattle.model.specs.Fours.{four}
+use Rattle.model.specs.Packets.{chosen}
+use Rattle.model.specs.Fours.{Four, four}
+use Rattle.model.specs.Queues.{choice}
 use Rattle.model.specs.Calls.{poll}
 use Rattle.model.specs.State.{statusFrom}
 use Rattle.model.proofs.Computing.{of-runs}
@@ -28,7 +33,18 @@ closed-asked-again =
     (λ (s : State) (stamp : ℕ). callOn s (poll stamp) .answer) (λ s stamp e. call-reads s (poll stamp) e)
     (λ s stamp e. ap (λ (o : Outcome). o .answer) (unsound-gets-nine s (poll stamp) e)) model.closed-asked-again
 
--- a state for which it holds, computed: a packet of 1,000 µs has gone, one more waits in queue 2, and the stamps pass 2^32 between
+-- the same in numbers: a host that polls twice, d µs apart, and the packet that goes next
+told-twice : (s : State) (stamp n d : ℕ) → stamp < 4294967296 → callOn s (poll stamp) .answer ≡ Closed n → d < 2147483648
+    → callOn s (poll stamp) .state .head .clock .time + d ≤ 1000000000000000
+    → (p : Packet) × (others : Four Packet) × (choice (viewOf (callOn s (poll stamp) .state) .waiting) ≡ chosen p others)
+    × (callOn s (poll stamp) .state .head .clock .time + d - p .arrival < p .lifetime
+    → callOn (callOn s (poll stamp) .state) (poll ((stamp + d) % 4294967296)) .answer
+    ≡ cond (leb n d) (Sent p) (Closed (n - d)))
+told-twice s stamp n d a r b c =
+    let k = closed-asked-again s stamp n a r in
+    (k .packet, k .others, k .goes-next, λ u. k .again d b c (lt-ltb _ _ u))
+
+-- such a state, computed: a packet of 1,000 µs has gone, one more waits in queue 2, and the stamps pass 2^32 between
 -- the two polls
 abbrev waits : Packet
 waits = record { id = 2; priority = 2; ontime = 1; lifetime = 60000000; arrival = 0 }
