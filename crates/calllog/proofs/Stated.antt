@@ -5,6 +5,7 @@ use mathlib.Core.Path.{_≡_, refl}
 use mathlib.Core.List.{List, [], _∷_, _++_, map}
 use native.Mathlib.Omega.{arith}
 use lib.ListN.{getD, replicate, length-replicate}
+use Rattle.rules.specs.Refusals.{firstOf}
 use Rattle.machine.specs.declared.Levels.{Levels}
 use Rattle.machine.specs.Levels.{levelsOf, noLevels}
 use Rattle.model.specs.declared.Answer.{Answer}
@@ -13,7 +14,7 @@ use Rattle.model.specs.Calls.{Call, words, count, offer, poll, Making, makingOf
 use Rattle.model.specs.Journal.{opened, journalOf, airIn}
 use Rattle.gate.specs.declared.State.{State}
 use Rattle.gate.specs.Layout.{outcome, makeState}
-use Rattle.gate.specs.Runs.{stateAfter, eventsOn}
+use Rattle.gate.specs.Runs.{stateAfter, eventsOn, checksOn}
 use Rattle.records.specs.declared.Record.{Record}
 use Rattle.records.specs.Records.{recordAt, Asked, makes, calls}
 use Rattle.records.specs.Writing.{littleEndian, bytesOf, probesField, recordOf, argumentChecks, writeNumber, logAfter}
@@ -30,6 +31,7 @@ use Rattle.calllog.proofs.Reading.{plays-back, log-plays-back}
 use Rattle.calllog.proofs.Pieces.{pieces}
 use Rattle.calllog.proofs.Turns.{turns-are-the-program}
 use Rattle.calllog.proofs.Bursting.{bursts-are-single-calls, runs-with-bursts}
+use Rattle.calllog.proofs.Exactly.{bursts-are-exact}
 use Rattle.calllog.proofs.Computing.{of-states, of-logs, of-bursts}
 
 of-writes : Type 0
@@ -148,6 +150,11 @@ as-single-calls s =
       b .answers-alike,
       b .others 1 (omega arith) refl,
     )
+
+-- and the byte of the offer is the number of its table
+by-table : (s : State) → getD (burstAnswers s records (77 ∷ 78 ∷ [])) 0 0 ≡ firstOf (checksOn s single)
+unfolding of-logs of-bursts records single
+by-table s = bursts-are-exact s records (77 ∷ 78 ∷ []) .bytes refl 0 (omega arith)
 
 -- a run with bursts in it: a make of profile 2, a burst, a poll, and a burst that has no room
 abbrev made : Making
