@@ -76,7 +76,7 @@ heard-events s records bytes (suc n) h =
     ∙ sym (events-append s (offersTo records n) ds)
 
 -- the answer slice that a burst leaves has the answers in front
-byte-at : (s : State) (records answers : List ℕ) (k : ℕ) → isAccepted records answers ≡ true → k < recordsIn records
+pub byte-at : (s : State) (records answers : List ℕ) (k : ℕ) → isAccepted records answers ≡ true → k < recordsIn records
     → getD (burstAnswers s records answers) k 0 ≡ byteOf s records k
 unfolding burstAnswers
 byte-at s records answers k e h =

@@ -1,14 +1,22 @@
 -- Why a second of silence: without it runs that each keep their figures break them together. Each side computes to the other.
-use Prim.Native.Nat.{ℕ, zero, suc, _+_, _*_}
+use Prim.Native.Nat.{ℕ, zero, suc, _+_, _*_, _≤_}
 use mathlib.Core.Path.{_≡_, refl}
+use mathlib.Core.Bool.{true}
 use mathlib.Core.List.{List, [], _∷_, _++_}
 use native.Mathlib.Omega.{arith}
 use Rattle.machine.specs.Levels.{noLevels}
+use Rattle.control.specs.Owed.{claimsCeiling}
 use Rattle.model.specs.Calls.{Call, offer, poll, makingOf}
 use Rattle.model.specs.Journal.{airTime, airIn}
+use Rattle.model.specs.Claims.{All}
 use Rattle.model.proofs.Computing.{of-runs}
 use Rattle.label.specs.Trailer.{Run}
 use Rattle.label.specs.Restarts.{Started, sentIn, sentInAll, Restarts, WaitsFirst}
+use Rattle.label.specs.OnAir.{onAir}
+use Rattle.label.specs.Most.{most, Alike}
+use Rattle.label.proofs.Restarts.{restarts-keep}
+use Rattle.label.proofs.OnAir.{receiver-hears}
+use Rattle.label.proofs.Most.{most-holds}
 
 -- a packet offered, and a poll at the same time
 sends : (at ontime : ℕ) → List Call
@@ -80,3 +88,35 @@ patient = record { making = makingOf 4 0 noLevels 0; calls = sends 1000000 4000;
 waits-first : WaitsFirst (record { run = patient; made = 1000001 } ∷ record { run = patient; made = 1 } ∷ [])
 unfolding of-runs sends patient sentInAll
 waits-first = ((omega arith, tt), (omega arith, tt), (tt, (omega arith, tt), tt))
+
+-- so keep their figures, and those that claim the ceiling keep that: two runs of profile 1
+gentle : Run
+unfolding of-runs sends
+gentle = record { making = makingOf 1 0 noLevels 0; calls = sends 0 1000; ready = refl }
+
+abbrev gentle-twice : List Started
+gentle-twice = record { run = gentle; made = 1000000 } ∷ record { run = gentle; made = 0 } ∷ []
+
+alike : Alike 1
+unfolding of-runs sends gentle sentInAll
+alike = record { runs = gentle-twice; restarts = (((omega arith, tt), tt), ((tt, tt), tt)); same = (refl, (refl, tt)) }
+
+both-claim : All (λ (s : Started). claimsCeiling (s .run .making .profile) ≡ true) gentle-twice
+unfolding of-runs gentle claimsCeiling
+both-claim = (refl, (refl, tt))
+
+ceiling-kept : (from w : ℕ)
+    → (100 * airTime from w (sentInAll gentle-twice) ≤ 3 * w + 400000)
+    × (100 * onAir from (from + w) (sentInAll gentle-twice) ≤ 3 * w + 400000)
+unfolding alike
+ceiling-kept from w = (
+  restarts-keep gentle-twice (alike .restarts) .ceiling both-claim from w,
+  receiver-hears gentle-twice (alike .restarts) .ceiling both-claim from w,
+)
+
+-- and in a second a profile's most
+most-kept : (from : ℕ)
+    → (airIn from (from + 1000000) (sentInAll gentle-twice) ≤ most 1 1000000)
+    × (onAir from (from + 1000000) (sentInAll gentle-twice) ≤ most 1 1000000)
+unfolding alike
+most-kept from = (most-holds 1 1000000 .admitted-in-all alike from, most-holds 1 1000000 .on-air-in-all (omega arith) alike from)

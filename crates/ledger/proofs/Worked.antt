@@ -2,6 +2,7 @@
 use mathlib.Core.Path.{_≡_, refl}
 use mathlib.Core.Bool.{true, false}
 use mathlib.Core.List.{[], _∷_}
+use native.Mathlib.Omega.{arith}
 use lib.ListN.{take, set}
 use Rattle.rules.specs.Profiles.{within, mostOntime, ontimeAllowed}
 use Rattle.packing.specs.Packing.{filled, allAre, padded}
@@ -9,7 +10,7 @@ use Rattle.model.specs.declared.Last.{Last}
 use Rattle.model.specs.Ledger.{airOf, spacedOut, newestIs}
 use Rattle.ledger.specs.declared.Ledger.{Ledger}
 use Rattle.ledger.specs.Layout.{admission, admissionIn, wordOf, items, ledgerOf, inPlaces, packed, tidy, soundLedger}
-use Rattle.ledger.specs.Layout.{agedIn, withoutOldest, putNewest}
+use Rattle.ledger.specs.Layout.{Packed, agedIn, withoutOldest, putNewest, Movable, Timely, Forty, InOrder}
 
 -- 25,000 µs before the last admission, for 4,000 µs
 word-written : wordOf 1100000 (admission 1075000 4000) ≡ 102404000
@@ -36,6 +37,23 @@ of-soundness = Unit {0}
 is-sound : soundLedger 3 1500000 second-was two ≡ true
 unfolding of-soundness
 is-sound = refl
+
+-- what the functions ask of a ledger: forty places, nothing but what it means, admissions that a sound state had, none after the
+-- end of time, and words that still fit 100,000 µs later
+two-fit :
+    Forty (two .slots)
+    × Packed 1100000 two
+    × InOrder (items 1100000 two)
+    × Timely (items 1100000 two)
+    × Movable 100000 (take 2 (two .slots))
+unfolding of-soundness
+two-fit = (
+  refl,
+  refl,
+  record { profile = 3; now = 1500000; last = second-was; rules = refl },
+  (omega arith, (omega arith, tt)),
+  (omega arith, (omega arith, tt)),
+)
 
 -- "all younger than 1,000,000 µs": at 1,999,999 the first is, at 2,000,000 it isn't
 not-yet-aged : soundLedger 3 1999999 second-was two ≡ true

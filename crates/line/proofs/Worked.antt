@@ -20,7 +20,8 @@ use Rattle.model.specs.Claims.{viewAfter, events}
 use Rattle.model.proofs.Computing.{of-runs}
 use Rattle.model.proofs.Worked.{clockAt, lastAt, counted, steered, packet, making, makingOld, offering}
 use Rattle.line.specs.Line.{countOf, best, without, picked, listRules, inList, Listed}
-use Rattle.line.specs.Same.{of, parted}
+use Rattle.line.specs.Same.{of, parted, inParts}
+use Rattle.line.proofs.Agree.{sound-lists-agree}
 
 -- all that an example opens
 unfoldable on-lists : Type 0
@@ -134,6 +135,12 @@ counts v = length (v .waiting) ∷ v .counts .accepted ∷ v .counts .displaced 
 twenty-wait : counts (after (made (making 1 0)) twenty) ≡ 20 ∷ 20 ∷ 0 ∷ []
 unfolding after made twenty
 twenty-wait = refl
+
+-- from there on, which is sound, the list and its parts answer alike
+alike : (calls : List Call)
+    → events (after (made (making 1 0)) twenty) calls ≡ events (inParts (after (made (making 1 0)) twenty)) calls
+unfolding after made twenty of
+alike calls = sound-lists-agree (after (made (making 1 0)) twenty) calls refl .answers
 
 one-displaced : counts (after (made (making 1 0)) (twenty ++ offering 0 99 2 400 60000 ∷ [])) ≡ 20 ∷ 21 ∷ 1 ∷ []
 unfolding after made twenty

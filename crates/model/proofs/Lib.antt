@@ -35,4 +35,5 @@ pub mod WorkedSecond
 pub mod SampleLog
 pub mod DeliveryExample
 pub mod Stated
+pub mod Hypotheses
 pub mod Tabled

@@ -3,20 +3,22 @@
 use Prim.Native.Nat.{ℕ, _<_}
 use mathlib.Core.Path.{_≡_, refl, _∙_}
 use mathlib.Core.Bool.{true, false}
+use mathlib.Core.List.{List}
 use mathlib.Core.Logic.{⊎-elim}
 use native.Mathlib.Omega.{arith}
 use lib.Dec.{eqb}
 use borrow.Author.Tests.{eqb-true, eqb-false}
-use Rattle.rules.specs.Refusals.{firstOf, FirstHolds, NoneHolds}
+use Rattle.rules.specs.Refusals.{Check, firstOf, FirstHolds, NoneHolds}
 use Rattle.rules.proofs.Cases.{on-cond, clash, both}
-use Rattle.rules.proofs.Refusals.{Numbered, first-of, of-first, first-numbered, of-none}
+use Rattle.rules.proofs.Refusals.{Numbered, first-of, of-first, first-numbered, of-none, exact}
 use Rattle.model.specs.declared.Offer.{Offer}
-use Rattle.model.specs.declared.Answer.the-variants.{Refused}
-use Rattle.model.specs.Calls.{isRefused, Call, words, count, offer, poll}
+use Rattle.model.specs.declared.Answer.the-variants.{Ready, Refused}
+use Rattle.model.specs.Calls.{isRefused, Call, words, count, offer, poll, Making}
 use Rattle.model.specs.Effects.{Result, result, maySend, refreshed, polled, effect}
 use Rattle.model.specs.Packets.{Holding, Chosen, nothing, chosen}
-use Rattle.model.specs.State.{Status}
-use Rattle.model.specs.Gate.{checks, call, RefusalsChangeNothing, RefusalsAreExact}
+use Rattle.model.specs.State.{Status, fresh, notLive}
+use Rattle.model.specs.Gate.{checks, unlessRefused, makeChecks, makeIn, call, RefusalsChangeNothing, RefusalsAreExact}
+use Rattle.model.specs.Gate.{MakeIsExact}
 
 -- no effect is a refusal
 abbrev Accepts : {h : Holding} → Result h → Type 0
@@ -48,25 +50,47 @@ checks-numbered v (count stamp busy probes) = omega arith
 checks-numbered v (offer stamp o) = omega arith
 checks-numbered v (poll stamp) = omega arith
 
-abbrev Exactly : {h : Holding} → Status h → Call → ℕ → Result h → Type 0
-Exactly v c n o = (o .answer ≡ Refused n → FirstHolds n (checks v c)) × (FirstHolds n (checks v c) → o .answer ≡ Refused n)
+abbrev Exactly : {h : Holding} → List Check → ℕ → Result h → Type 0
+Exactly table n o = (o .answer ≡ Refused n → FirstHolds n table) × (FirstHolds n table → o .answer ≡ Refused n)
 
 positive : (n : ℕ) → (n ≡ 0 → ⊥) → 0 < n
 positive n h = omega arith
 
+-- what is done unless a table refuses it is refused with n exactly if n's row is the first that holds
+unless-exact : {h : Holding} (table : List Check) → Numbered table → (given : Status h) (done : Result h)
+    → isRefused (done .answer) ≡ false → (n : ℕ) → Exactly table n (unlessRefused (firstOf table) given done)
+unless-exact table m given done accepts n =
+    on-cond (Exactly table n) (eqb (firstOf table) 0)
+    (λ e. (
+      λ r. clash (cc),
+      λ h. absurd (omega (arith, eqb-true, first-of n table h, first-numbered n table m h)),
+    ))
+    (λ e. (
+      λ r. let same : firstOf table ≡ n = cc in of-first n table (positive n (λ z. eqb-false _ _ e (same ∙ z))) same,
+      λ h. cc (first-of n table h),
+    ))
+
 pub refusals-are-exact : {h : Holding} → RefusalsAreExact h
 unfolding call
-refusals-are-exact v c n =
-    on-cond (Exactly v c n) (eqb (firstOf (checks v c)) 0)
-    (λ e. (
-      λ r. clash (cc (effect-accepts v c)),
-      λ h. absurd (omega (arith, eqb-true, first-of n (checks v c) h, first-numbered n (checks v c) (checks-numbered v c) h)),
-    ))
-    (λ e. (
-      λ r. let same : firstOf (checks v c) ≡ n = cc in
-          of-first n (checks v c) (positive n (λ z. eqb-false _ _ e (same ∙ z))) same,
-      λ h. cc (first-of n (checks v c) h),
-    ))
+refusals-are-exact v c = unless-exact (checks v c) (checks-numbered v c) v (effect v c) (effect-accepts v c)
+
+make-numbered : (m : Making) → Numbered (makeChecks m)
+make-numbered m = omega arith
+
+abbrev ReadySo : {h : Holding} → Making → Result h → Type 0
+ReadySo m o = (o .answer ≡ Ready → NoneHolds (makeChecks m)) × (NoneHolds (makeChecks m) → o .answer ≡ Ready)
+
+pub make-is-exact : {h : Holding} → MakeIsExact h
+unfolding makeIn
+make-is-exact {h} m =
+    let passed = exact (makeChecks m) (make-numbered m) .passed in
+    record {
+      refused = unless-exact (makeChecks m) (make-numbered m) notLive (result {h = h} (fresh m) Ready) refl;
+      ready =
+          on-cond (ReadySo {h = h} m) (eqb (firstOf (makeChecks m)) 0)
+          (λ e. (λ r. passed .0 (eqb-true _ _ e), λ none. refl))
+          (λ e. (λ r. clash (cc), λ none. absurd (eqb-false _ _ e (passed .1 none))));
+    }
 
 -- what holds of the effect, where every check is passed, and of a refusal that changes nothing, holds of the call
 pub on-call : {h : Holding} (P : Result h → Type 0) (v : Status h) (c : Call) → (NoneHolds (checks v c) → P (effect v c))

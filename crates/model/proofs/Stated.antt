@@ -2,19 +2,20 @@
 -- less fails here. Then what they are stated with, worked by hand: each side computes to the other.
 use Prim.Native.Nat.{ℕ, suc, _+_, _-_, _*_, _%_, _≤_, _<_}
 use mathlib.Core.Path.{_≡_, refl, ap, sym, _∙_, subst}
-use mathlib.Core.Logic.{_⊎_, inl, inr}
-use mathlib.Core.Bool.{true, false, cond}
+use mathlib.Core.Logic.{_⊎_, inl, inr, ⊎-elim}
+use mathlib.Core.Bool.{true, false, cond, not, _&&_}
 use mathlib.Core.List.{List, [], _∷_, _++_, map}
 use native.Mathlib.Omega.{arith}
-use lib.Dec.{leb, eqb}
+use lib.Dec.{ltb, leb, eqb}
 use lib.ListN.{length}
-use borrow.Author.Tests.{not-false, eqb-true, le-leb, lt-leb, lt-ltb}
+use borrow.Author.Tests.{not-true, not-false, ltb-true, ltb-false, eqb-true, le-leb, lt-leb, lt-ltb, le-ltb}
 use Rattle.rules.specs.Profiles.{within, isProfile}
 use Rattle.rules.proofs.Profiles.{by-profile}
 use Rattle.rules.specs.Refusals.{firstOf, FirstHolds}
-use Rattle.rules.proofs.Cases.{on-cond, clash}
+use Rattle.rules.proofs.Cases.{on-cond, split, both, clash}
 use Rattle.rules.proofs.Refusals.{of-none}
 use Rattle.rules.proofs.Tests.{tested}
+use Rattle.machine.specs.Levels.{badList}
 use Rattle.control.specs.Owed.{quiet, claimsCeiling}
 use Rattle.control.proofs.Owed.{floors}
 use Rattle.model.specs.declared.Packet.{Packet}
@@ -35,7 +36,7 @@ use Rattle.model.specs.Journal.{opened, turned, arriving, roomFor, entry
 use Rattle.model.specs.Journal.{airIn, lastSecond}
 use Rattle.model.specs.Claims.{viewAfter, events, All, InTurn, ByTheFifth, Newest, Apart, Claims}
 use Rattle.model.specs.Delivery.{Among, longestWait, lastPoll, PolledEvery, FewerThanFive}
-use Rattle.model.proofs.Refusals.{refusals-change-nothing, refusals-are-exact}
+use Rattle.model.proofs.Refusals.{refusals-change-nothing, refusals-are-exact, make-is-exact}
 use Rattle.model.proofs.Sound.{forty-are-enough}
 use Rattle.model.proofs.KeepsSound.{calls-keep-sound}
 use Rattle.model.proofs.Closing.{closed-is-least}
@@ -54,6 +55,56 @@ refused-unchanged = refusals-change-nothing
 refused-exactly : {h : Holding} (v : Status h) (c : Call) (n : ℕ)
     → (call v c .answer ≡ Refused n → FirstHolds n (checks v c)) × (FirstHolds n (checks v c) → call v c .answer ≡ Refused n)
 refused-exactly = refusals-are-exact
+
+-- make's numbers, whatever way packets wait. "at making a profile outside 1 to 5 gets number 1" (W-213), and so does a way that
+-- is neither 0 nor 1 (W-205); "A list that breaks a rule is refused at making with 15, BAD-LIST, after 1; it is judged for
+-- profile 5 alone." (W-213)
+abbrev BadProfile : Making → Type 0
+BadProfile m = (isProfile (m .profile) ≡ false) ⊎ (1 < m .oldway)
+
+abbrev BadList : Making → Type 0
+BadList m = (m .oldway ≤ 1) × (m .profile ≡ 5) × (badList (m .list) ≡ true)
+
+module _ (h : Holding) (m : Making) where
+  one-exactly : (makeIn h m .answer ≡ Refused 1 → BadProfile m) × (BadProfile m → makeIn h m .answer ≡ Refused 1)
+  one-exactly =
+      let exactly = make-is-exact {h = h} m .refused 1 in (
+        λ e. ⊎-elim (λ r. inl (not-true _ (r .0))) (λ r.
+            ⊎-elim (λ q. inr (ltb-true 1 (m .oldway) (q .0))) (λ q.
+            ⊎-elim (λ p. absurd (omega (arith, p .1))) (λ p. absurd (p .1)) (q .1)) (r .1)) (exactly .0 e),
+        λ b. exactly .1 (split (isProfile (m .profile))
+            (λ t. ⊎-elim (λ f. clash (cc)) (λ w. inr (ap not t, inl (lt-ltb 1 (m .oldway) w, refl))) b)
+            (λ f. inl (ap not f, refl))),
+      )
+
+  fifteen-exactly : (makeIn h m .answer ≡ Refused 15 → BadList m) × (BadList m → makeIn h m .answer ≡ Refused 15)
+  unfolding within
+  fifteen-exactly =
+      let exactly = make-is-exact {h = h} m .refused 15 in (
+        λ e. ⊎-elim (λ r. absurd (omega (arith, r .1))) (λ r.
+            ⊎-elim (λ q. absurd (omega (arith, q .1))) (λ q.
+            ⊎-elim (λ p. let t = both (eqb (m .profile) 5) (badList (m .list)) (p .0) in
+            (ltb-false 1 (m .oldway) (q .0), eqb-true (m .profile) 5 (t .0), t .1)) (λ p. absurd (p .1))
+            (q .1)) (r .1)) (exactly .0 e),
+        λ b. exactly .1
+            (inr (rw (b .1) refl, inr (le-ltb 1 (m .oldway) (b .0), inl (rw (b .1, b .2) refl, refl)))),
+      )
+
+  -- and else READY
+  ready-exactly :
+      (makeIn h m .answer ≡ Ready → (BadProfile m → ⊥) × (BadList m → ⊥))
+      × ((BadProfile m → ⊥) → (BadList m → ⊥) → makeIn h m .answer ≡ Ready)
+  ready-exactly = (
+    λ e. (λ b. clash (cc (one-exactly .1 b)), λ b. clash (cc (fifteen-exactly .1 b))),
+    λ one fifteen.
+        let profile : not (isProfile (m .profile)) ≡ false = split _ (λ t. ap not t) (λ f. absurd (one (inl f))) in
+        let way : ltb 1 (m .oldway) ≡ false =
+        split _ (λ t. absurd (one (inr (ltb-true 1 (m .oldway) t)))) (λ f. f) in
+        let list : eqb (m .profile) 5 && badList (m .list) ≡ false =
+        split _ (λ t. let l = both (eqb (m .profile) 5) (badList (m .list)) t in
+        absurd (fifteen (ltb-false 1 (m .oldway) way, eqb-true (m .profile) 5 (l .0), l .1))) (λ f. f) in
+        make-is-exact {h = h} m .ready .1 (profile, (way, (list, tt))),
+  )
 
 stays-sound : (v : View) (c : Call) → sound v ≡ true → sound (call v c .view) ≡ true
 stays-sound = calls-keep-sound

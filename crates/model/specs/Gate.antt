@@ -9,7 +9,7 @@ use lib.ListN.{length}
 use Rattle.rules.specs.Profiles.{isProfile, lastPriority, ontimeAllowed, lifetimeAllowed, room, mostOffers}
 use Rattle.rules.specs.Clock.{stamps, stepOf, goesBack, endOfTime, passesEnd}
 use Rattle.rules.specs.Samples.{goodWords, badCount}
-use Rattle.rules.specs.Refusals.{Check, check, firstOf, FirstHolds}
+use Rattle.rules.specs.Refusals.{Check, check, firstOf, FirstHolds, NoneHolds}
 use Rattle.machine.specs.Levels.{badList}
 use Rattle.model.specs.declared.Clock.{Clock}
 use Rattle.model.specs.declared.Offer.{Offer}
@@ -94,6 +94,19 @@ RefusalsAreExact h =
     (v : Status h) (c : Call) (n : ℕ)
     → (call v c .answer ≡ Refused n → FirstHolds n (checks v c))
     × (FirstHolds n (checks v c) → call v c .answer ≡ Refused n)
+
+-- and so is make's, 1 and 15: number n exactly if n's row is the first of the three that holds, READY exactly
+-- if none does
+pub record MadeExactly (h : Holding) (m : Making) : Type 0 where
+  pub refused : (n : ℕ)
+      → (makeIn h m .answer ≡ Refused n → FirstHolds n (makeChecks m))
+      × (FirstHolds n (makeChecks m) → makeIn h m .answer ≡ Refused n)
+  pub ready :
+      (makeIn h m .answer ≡ Ready → NoneHolds (makeChecks m))
+      × (NoneHolds (makeChecks m) → makeIn h m .answer ≡ Ready)
+
+abbrev pub MakeIsExact : Holding → Type 0
+MakeIsExact h = (m : Making) → MadeExactly h m
 
 -- a call leaves a sound state sound
 abbrev pub CallsKeepSound : Holding → Type 0

@@ -7,3 +7,4 @@ pub mod Reading
 pub mod Back
 pub mod Worked
 pub mod WorkedWriting
+pub mod Stated

@@ -8,9 +8,9 @@ use Rattle.rules.specs.Profiles.{within}
 use Rattle.packing.specs.Packing.{filled, allAre, padded}
 use Rattle.waiting.specs.declared.Cell.{Cell}
 use Rattle.waiting.specs.declared.Found.the-variants.{Nothing, At}
-use Rattle.waiting.specs.Layout.{Rows, rows, cell, triples, wordsOf, items, packed, tidyQueue, cellsSound, soundQueue}
+use Rattle.waiting.specs.Layout.{Rows, rows, Sized, cell, triples, wordsOf, items, packed, Packed, ZeroFrom, tidyQueue}
 use Rattle.waiting.specs.Layout.{part, flat, laid, queues, changed, fourOf, waitingIn, packetIn, tidy, alive, countIn}
-use Rattle.waiting.specs.Layout.{firstOr, foundFrom}
+use Rattle.waiting.specs.Layout.{cellsSound, soundQueue, Held, firstOr, foundFrom}
 
 -- on-time 1,000 for 50,000 µs, come at 200; and 500 for 60 s, come at 300
 abbrev early : Cell
@@ -36,6 +36,11 @@ two-meant = refl
 two-laid : packed (early ∷ late ∷ []) ≡ two
 unfolding packed filled wordsOf
 two-laid = refl
+
+-- what the functions ask of a queue's rows: their size, nothing but what they mean, and zeros from the third place on
+two-fit : Sized 1 two × Packed two × ZeroFrom 2 two
+unfolding triples packed filled wordsOf
+two-fit = (record { words = refl; came = refl }, refl, refl)
 
 unfoldable of-soundness : Type 0
 unfolding triples allAre padded cellsSound soundQueue within
@@ -106,6 +111,11 @@ of-rows = Unit {0}
 read-again : queues (laid four-queues) ≡ four-queues
 unfolding of-rows
 read-again = refl
+
+-- and of all four
+all-held : Held (laid four-queues)
+unfolding of-rows
+all-held = record { size = record { words = refl; came = refl }; tight = refl }
 
 -- "four queues of up to 5 packets", one a priority
 of-priority-three : waitingIn (laid four-queues) .c3 ≡ packetIn 3 late ∷ packetIn 3 early ∷ []
