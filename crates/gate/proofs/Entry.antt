@@ -34,40 +34,15 @@ use Rattle.gate.specs.Layout.{stateWith, rowsIn, viewOf, soundState, out
 use Rattle.gate.specs.Steps.{requestChecks, refusals}
 use Rattle.gate.proofs.Views.{engine, said}
 
--- 2 and 3, then the request's own
-module _ (h : Head) (q : Four Packet) (r : Request) (stamp : ℕ) where
-  pub goes-back : goesBack (stepOf stamp (h .clock .stamp)) ≡ true → 2 ≡ firstOf (refusals h q r stamp)
-  unfolding firstOf
-  goes-back e = sym (rw e)
-
-  module _ (e : goesBack (stepOf stamp (h .clock .stamp)) ≡ false) where
-    pub passes-end : passesEnd (stepped (h .clock) stamp .time) ≡ true → 3 ≡ firstOf (refusals h q r stamp)
-    unfolding firstOf
-    passes-end f = sym (rw (e, f))
-
-    own : passesEnd (stepped (h .clock) stamp .time) ≡ false
-        → firstOf (requestChecks h q r (stepped (h .clock) stamp .time)) ≡ firstOf (refusals h q r stamp)
-    unfolding firstOf
-    own f = sym (rw (e, f))
-
-    pub by-request : passesEnd (stepped (h .clock) stamp .time) ≡ false → (r′ : Request) → r ≡ r′ → (n : ℕ)
-        → n ≡ firstOf (requestChecks h q r′ (stepped (h .clock) stamp .time)) → n ≡ firstOf (refusals h q r stamp)
-    by-request f r′ g n k =
-        k ∙ ap (λ (x : Request). firstOf (requestChecks h q x (stepped (h .clock) stamp .time))) (sym g) ∙ own f
-
--- a sample's own check, and a poll's
-module _ (h : Head) (q : Four Packet) (time : ℕ) where
-  pub is-4 : (busy probes : ℕ) → badCount busy probes ≡ true → 4 ≡ firstOf (requestChecks h q (Count busy probes) time)
-  unfolding firstOf
-  is-4 busy probes e = sym (rw e)
-
-  pub not-4 : (busy probes : ℕ) → badCount busy probes ≡ false → 0 ≡ firstOf (requestChecks h q (Count busy probes) time)
-  unfolding firstOf
-  not-4 busy probes e = sym (rw e)
-
-  pub no-own : 0 ≡ firstOf (requestChecks h q Poll time)
-  unfolding firstOf
-  no-own = refl
+-- past 2 and 3 the number is the request's own
+pub by-request : (h : Head) (q : Four Packet) (r r′ : Request) (stamp n : ℕ) → goesBack (stepOf stamp (h .clock .stamp)) ≡ false
+    → passesEnd (stepped (h .clock) stamp .time) ≡ false → r ≡ r′
+    → n ≡ firstOf (requestChecks h q r′ (stepped (h .clock) stamp .time)) → n ≡ firstOf (refusals h q r stamp)
+unfolding firstOf
+by-request h q r r′ stamp n e f g k =
+    k
+    ∙ ap (λ (x : Request). firstOf (requestChecks h q x (stepped (h .clock) stamp .time))) (sym g)
+    ∙ sym (rw (e, f))
 
 -- what refuses a request is what refuses its call on a sound state
 same-number : (s : State) (r : Request) (stamp : ℕ) → soundState s ≡ true

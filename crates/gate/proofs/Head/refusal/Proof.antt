@@ -1,6 +1,6 @@
 -- One check after the other; then by the request.
 use Prim.Native.Nat.{ℕ}
-use mathlib.Core.Path.{_≡_, sym, _∙_, ap}
+use mathlib.Core.Path.{_≡_, refl, sym, _∙_, ap}
 use mathlib.Core.Bool.{false}
 use borrow.Author.Needs.{needs}
 use Rattle.rules.specs.Clock.{stepOf, goesBack, passesEnd}
@@ -12,7 +12,7 @@ use Rattle.model.specs.Effects.{stepped}
 use Rattle.checks.specs.declared.Request.{Request}
 use Rattle.waiting.specs.Layout.{rows, waitingIn}
 use Rattle.gate.specs.Steps.{offerChecks, requestChecks, refusals}
-use Rattle.gate.proofs.Entry.{goes-back, passes-end, by-request, is-4, not-4, no-own}
+use Rattle.gate.proofs.Entry.{by-request}
 use Rattle.gate.proofs.Head.refusal.Statement.{statement}
 use Rattle.gate.proofs.Head.refusal.Tie as tie
 
@@ -39,37 +39,35 @@ own : (c : tie.Else2) (r : Request) (n : ℕ) → let s = start c in
     → n ≡ firstOf (refusals (s .args .self) (queued s) (s .args .request) (s .args .stamp))
 own c r n e f =
     let s = start c in
-    by-request (s .args .self) (queued s) (s .args .request) (s .args .stamp) (forward (c .before .before .before))
+    by-request (s .args .self) (queued s) (s .args .request) r (s .args .stamp) n (forward (c .before .before .before))
     (ap (λ (k : Clock). passesEnd (k .time)) (sym (c .before .before .clock-at .ensures)) ∙ sym (c .before .passes-end .ensures)
     ∙ c .if2 .left)
-    r e n f
+    e f
 
 returns : tie.Need-returns
+unfolding firstOf
 returns c =
-    let s = c .before .before .before .before .before .before in
-    goes-back (s .args .self) (queued s) (s .args .request) (s .args .stamp)
-    (ap goesBack (sym (c .before .before .step .ensures)) ∙ sym (c .before .goes-back .ensures) ∙ c .if1 .taken)
+    sym (rw (ap goesBack (sym (c .before .before .step .ensures)) ∙ sym (c .before .goes-back .ensures) ∙ c .if1 .taken))
 
 returns-2 : tie.Need-returns-2
+unfolding firstOf
 returns-2 c =
-    let s = first (c .before .before .before) in
-    passes-end (s .args .self) (queued s) (s .args .request) (s .args .stamp) (forward (c .before .before .before))
-    (ap (λ (k : Clock). passesEnd (k .time)) (sym (c .before .before .clock-at .ensures)) ∙ sym (c .before .passes-end .ensures)
-    ∙ c .if2 .taken)
+    let past = ap (λ (k : Clock). passesEnd (k .time)) (sym (c .before .before .clock-at .ensures))
+    ∙ sym (c .before .passes-end .ensures)
+    ∙ c .if2 .taken in
+    sym (rw (forward (c .before .before .before), past))
 
 returns-3 : tie.Need-returns-3
+unfolding firstOf
 returns-3 c =
-    let e = c .before .before .before .before .before in
-    let s = start e in
-    own e _ _ (c .before .before .before .request .given .1)
-    (is-4 (s .args .self) (queued s) (later s) _ _ (sym (c .before .is-bad-count .ensures) ∙ c .if3 .taken))
+    own (c .before .before .before .before .before) _ _ (c .before .before .before .request .given .1)
+    (sym (rw (sym (c .before .is-bad-count .ensures) ∙ c .if3 .taken)))
 
 returns-4 : tie.Need-returns-4
+unfolding firstOf
 returns-4 c =
-    let e = c .before .before .before .before .before in
-    let s = start e in
-    own e _ _ (c .before .before .before .request .given .1)
-    (not-4 (s .args .self) (queued s) (later s) _ _ (sym (c .before .is-bad-count .ensures) ∙ c .if3 .left))
+    own (c .before .before .before .before .before) _ _ (c .before .before .before .request .given .1)
+    (sym (rw (sym (c .before .is-bad-count .ensures) ∙ c .if3 .left)))
 
 returns-5 : tie.Need-returns-5
 returns-5 c =
@@ -81,9 +79,8 @@ returns-5 c =
     (e .before .before .clock-at .ensures))
 
 returns-6 : tie.Need-returns-6
-returns-6 c =
-    let e = c .before .before in
-    let s = start e in own e _ _ (c .enum-told .given .1) (no-own (s .args .self) (queued s) (later s))
+unfolding firstOf
+returns-6 c = own (c .before .before) _ _ (c .enum-told .given .1) refl
 
 pub refusal-spec : {M : Type 1} → statement M
 refusal-spec =
