@@ -26,9 +26,10 @@ use Rattle.model.specs.Delivery.{Among}
 use Rattle.model.proofs.Fours.{column-change, column-each}
 use Rattle.model.proofs.Displacing.{picked-length, on-room}
 use Rattle.model.proofs.Runs.{runs-are-their-parts}
+use Rattle.model.proofs.Delivery.{delivery}
 use Rattle.label.specs.Trailer.{byModel, journal}
 use Rattle.label.specs.Priorities.{below, Wait, withOffer, whenItCame, sinceItCame, its, WaitsStill, before, meanwhile}
-use Rattle.label.specs.Priorities.{went, InItsTurn, waited, WaitsAtMost, WaitsAmongOthers, AmongWarnings}
+use Rattle.label.specs.Priorities.{went, InItsTurn, waited, WaitsAtMost, WarningsGo, WaitsAmongOthers, AmongWarnings}
 use Rattle.label.proofs.Rate.{rate-of-obeying, polled-obeys}
 
 -- the entries of a column up to an ordinal, each with n and its place in the column at most m
@@ -283,6 +284,11 @@ waits-at-most p w s h =
     let each = quiet (w .run .making .profile) + p in
     let rate = rate-of-obeying p (withOffer w) (w .during) (polled-obeys p (withOffer w) (w .during) s) in
     omega (arith, waits-by 0 each w (omega (arith, rate)) h)
+
+pub warnings-go : WarningsGo byModel
+warnings-go p w urgent =
+    let r = w .run in
+    delivery (r .making) p (w .stamp) (w .packet) (r .calls) (w .during) (r .ready) urgent (w .taken)
 
 -- others take f of each f + g µs
 share : (t f g b m : ℕ) → t ≤ suc (b + m) * f → m * (f + g) ≤ t + (f + g) → t * g ≤ (b + 2) * f * (f + g)

@@ -143,7 +143,7 @@ all-allowed v (c ∷ calls) = (
       (all-allowed (call v c .view) calls),
 )
 
-pub never-longer : NeverLonger
+pub never-longer : NeverLonger byModel
 never-longer r =
     subst (λ (p : ℕ). NoneLonger (mostOntime p) (byModel .all r)) (run-begins (r .making) (r .ready) .same)
     (all-allowed (make (r .making) .view) (r .calls))

@@ -38,12 +38,12 @@ calmOnce profile ontime = cond (alwaysRoom profile ontime) 0 second
 -- "(n + 1) x (Q + p) for n messages", or "1 s and (n + 1) x the longer of Q + p and a share of 1 s + p": of
 -- a host that obeys CLOSED so late, and so of one that polls at least that often
 abbrev pub CalmRate : Answers → Type 0
-CalmRate a =
-    (load samples ontime late : ℕ) (c : Calm a load samples ontime)
-    → ObeysFrom a late (settled c) (c .during)
-    → timeOf a (settled c) (c .during)
+CalmRate by =
+    (load samples ontime late : ℕ) (c : Calm by load samples ontime)
+    → ObeysFrom by late (settled c) (c .during)
+    → timeOf by (settled c) (c .during)
     ≤ calmOnce (profileOf c) ontime
-    + suc (messagesIn a (settled c) (c .during)) * calmEach (profileOf c) (floorOf c) ontime late
+    + suc (messagesIn by (settled c) (c .during)) * calmEach (profileOf c) (floorOf c) ontime late
 
 -- so many times so long are over before a time is
 abbrev pub timesIn : (time each : ℕ) → ℕ
@@ -60,26 +60,26 @@ calmMessages m load samples ontime late time =
     messagesBy (m .profile) (calmFloor m load samples ontime) ontime late time
 
 abbrev pub CalmMessages : Answers → Type 0
-CalmMessages a =
-    (load samples ontime late time : ℕ) (c : Calm a load samples ontime)
-    → ObeysFrom a late (settled c) (c .during)
-    → time ≤ timeOf a (settled c) (c .during)
-    → calmMessages (c .before .making) load samples ontime late time ≤ messagesIn a (settled c) (c .during)
+CalmMessages by =
+    (load samples ontime late time : ℕ) (c : Calm by load samples ontime)
+    → ObeysFrom by late (settled c) (c .during)
+    → time ≤ timeOf by (settled c) (c .during)
+    → calmMessages (c .before .making) load samples ontime late time ≤ messagesIn by (settled c) (c .during)
 
 -- How long a packet waits on a calm channel.
 
 -- a packet that is TAKEN once the run has settled, and calls behind it
-pub record CalmWait (a : Answers) (load samples ontime : ℕ) : Type 0 where
-  pub calm : Calm a load samples ontime
+pub record CalmWait (by : Answers) (load samples ontime : ℕ) : Type 0 where
+  pub calm : Calm by load samples ontime
   pub stamp : ℕ
   pub packet : Offer
-  pub taken : a .next (settled calm) (offer stamp packet) ≡ Taken
+  pub taken : by .next (settled calm) (offer stamp packet) ≡ Taken
   pub behind : List Call
   -- the calls that the figure is about: its offer and those
   pub calls : calm .during ≡ offer stamp packet ∷ behind
 
 -- it is one of the waits of "How long may a status message wait?"
-abbrev pub asWait : {a : Answers} {load samples ontime : ℕ} → CalmWait a load samples ontime → Wait a
+abbrev pub asWait : {by : Answers} {load samples ontime : ℕ} → CalmWait by load samples ontime → Wait by
 asWait w =
     record {
       run = settled (w .calm);
@@ -91,8 +91,8 @@ asWait w =
 
 -- "(before it + meanwhile + 1) x (Q + p)", with the calm floor
 abbrev pub CalmWaits : Answers → Type 0
-CalmWaits a =
-    (load samples ontime p : ℕ) (w : CalmWait a load samples ontime) → ServedSince p (asWait w)
+CalmWaits by =
+    (load samples ontime p : ℕ) (w : CalmWait by load samples ontime) → ServedSince p (asWait w)
     → WaitsStill (asWait w)
     → waited (asWait w)
     ≤ calmOnce (profileOf (w .calm)) ontime
@@ -103,12 +103,12 @@ CalmWaits a =
 -- displaced: with the conditions of "How long may a lane-closure warning wait?", where the second always has
 -- room
 abbrev pub CalmDelivery : Answers → Type 0
-CalmDelivery a =
-    (load samples ontime p : ℕ) (w : CalmWait a load samples ontime)
+CalmDelivery by =
+    (load samples ontime p : ℕ) (w : CalmWait by load samples ontime)
     → alwaysRoom (profileOf (w .calm)) ontime ≡ true
     → w .packet .priority ≡ 0
     → OfferedBy (floorOf (w .calm)) (w .calm .before .making) p (its (asWait w)) (whenItCame (asWait w))
-    (a .since (withOffer (asWait w)) (w .behind))
+    (by .since (withOffer (asWait w)) (w .behind))
 
 -- How soon after a jam.
 
@@ -129,8 +129,8 @@ SampledEvery every last j (e ∷ es) =
 
 -- more than n times that later n samples have come: as many as the profile settles in, and the figures hold
 abbrev pub Recovers : Answers → Type 0
-Recovers a =
+Recovers by =
     (every samples : ℕ) (r : Run) (calls : List Call)
-    → SampledEvery every (bookOf a r .time) (bookOf a r) (a .since r calls)
-    → samples * every < timeOf a r calls
-    → samples ≤ length (loadsSince a r calls)
+    → SampledEvery every (bookOf by r .time) (bookOf by r) (by .since r calls)
+    → samples * every < timeOf by r calls
+    → samples ≤ length (loadsSince by r calls)
