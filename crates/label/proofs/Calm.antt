@@ -20,8 +20,8 @@ use Rattle.model.specs.Journal.{lastSecond}
 use Rattle.model.specs.Ledger.{airOf}
 use Rattle.model.specs.Claims.{All, Newest, mostInSecond}
 use Rattle.model.proofs.Sound.{test-view}
-use Rattle.label.specs.Trailer.{Run, viewAtEnd, journal}
-use Rattle.label.specs.Calm.{Calm, ended, floorOf, alwaysRoom, CalmFloors}
+use Rattle.label.specs.Trailer.{Run, viewAtEnd, byModel, journal}
+use Rattle.label.specs.Calm.{Calm, ended, profileOf, floorOf, alwaysRoom, CalmFloors}
 use Rattle.label.proofs.Rows.{Chain}
 use Rattle.label.proofs.Restarts.{in-run}
 use Rattle.label.proofs.Pace.{Waits, Allows, Paced, paced}
@@ -43,12 +43,12 @@ chain-over v now (a ∷ l) s n c h =
     ap (λ (d : ℕ). limitsOf (v .control .profile) .fromend * d) (n .2) in
     (omega (arith, n .1, h (n .0)), c .0, c .1)
 
-module _ {load samples ontime : ℕ} (c : Calm load samples ontime) where
+module _ {load samples ontime : ℕ} (c : Calm byModel load samples ontime) where
   abbrev r : Run
   r = ended c
 
   abbrev profile : ℕ
-  profile = c .before .making .profile
+  profile = profileOf c
 
   abbrev admitted : List Admission
   admitted = journal r .admissions
@@ -97,12 +97,12 @@ module _ {load samples ontime : ℕ} (c : Calm load samples ontime) where
             );
       })
 
-pub calm-floors : CalmFloors
+pub calm-floors : CalmFloors byModel
 calm-floors load samples ontime c =
     record {
       with-room = λ stamp room accepted some late.
           goes-with-room ontime (ended c) (short c) stamp some (over c _ (all-after (floorOf c) _ (admitted c) late)) room
           accepted;
-      always = λ room stamp accepted some late.
+      by-itself = λ room stamp accepted some late.
           opens-calmly c room .sends stamp accepted some (all-after (floorOf c) _ (admitted c) late);
     }

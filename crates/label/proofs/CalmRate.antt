@@ -16,11 +16,11 @@ use Rattle.rules.proofs.Ceiling.{ceil-reaches}
 use Rattle.control.specs.Owed.{second, quiet}
 use Rattle.model.specs.Calls.{Call, offer}
 use Rattle.model.specs.Claims.{mostInSecond}
-use Rattle.model.specs.Delivery.{SendsAfter}
+use Rattle.model.specs.Delivery.{KeepsFloor}
 use Rattle.model.proofs.Delivery.{delivery-by}
-use Rattle.label.specs.Trailer.{Run, viewAtEnd, journal, onward, messagesIn}
+use Rattle.label.specs.Trailer.{Run, viewAtEnd, byModel, journal, onward, messagesIn}
 use Rattle.label.specs.Priorities.{withOffer}
-use Rattle.label.specs.Calm.{alwaysRoom, Calm, settled, floorOf}
+use Rattle.label.specs.Calm.{alwaysRoom, Calm, settled, profileOf, floorOf}
 use Rattle.label.specs.CalmRate.{inASecond, calmEach, calmOnce, CalmRate, timesIn, messagesBy}
 use Rattle.label.specs.CalmRate.{CalmMessages, asWait, CalmWaits, CalmDelivery}
 use Rattle.label.proofs.Steps.{Timely}
@@ -31,9 +31,9 @@ use Rattle.label.proofs.Priorities.{waits-by}
 use Rattle.label.proofs.Following.{part}
 use Rattle.label.proofs.Calm.{opens-calmly, opens-later, calm-floors}
 
-module _ {load samples ontime : ℕ} (late : ℕ) (c : Calm load samples ontime) where
+module _ {load samples ontime : ℕ} (late : ℕ) (c : Calm byModel load samples ontime) where
   abbrev profile : ℕ
-  profile = c .before .making .profile
+  profile = profileOf c
 
   abbrev once : ℕ
   once = calmOnce profile ontime
@@ -110,7 +110,7 @@ module _ {load samples ontime : ℕ} (late : ℕ) (c : Calm load samples ontime)
         by zero f some = absurd (omega arith)
         by (suc k) f some = by-second k f
 
-pub calm-rate : CalmRate
+pub calm-rate : CalmRate byModel
 calm-rate load samples ontime late c =
     pace-by late (once late c) (each late c) (short late c) (settled c) (c .during)
     (λ ds es e. in-time late c ds es e _ _)
@@ -121,11 +121,11 @@ times-most zero n zero h = omega arith
 times-most zero n (suc each) h = quotient-most 0 n (suc each) (omega (arith, suc-mul n (suc each)))
 times-most (suc time) n each h = quotient-most (suc time - 1) n each (omega arith)
 
-pub calm-messages : CalmMessages
+pub calm-messages : CalmMessages byModel
 unfolding messagesBy
 calm-messages load samples ontime late time c h long =
-    let profile = c .before .making .profile in
-    let m = messagesIn (settled c) (c .during) in
+    let profile = profileOf c in
+    let m = messagesIn byModel (settled c) (c .during) in
     let always = times-most time m (quiet profile + late)
     (omega (arith, rate-of-obeying late (settled c) (c .during) h)) in
     let calmly = times-most (time - calmOnce profile ontime) m (calmEach profile (floorOf c) ontime late)
@@ -139,31 +139,31 @@ onward-twice r cs ds =
     (sym (append-assoc (r .calls) cs ds))
 
 -- the rate from the offer on
-pub calm-waits : CalmWaits
-calm-waits load samples ontime p w =
+pub calm-waits : CalmWaits byModel
+calm-waits load samples ontime p w s =
     let c = w .calm in
+    let r = withOffer (asWait w) in
     let asked = offer (w .stamp) (w .packet) in
-    let start = journal (withOffer (asWait w)) .time in
-    let had = length (journal (withOffer (asWait w)) .admissions) in
-    waits-by (once p c) (each p c) p (asWait w)
-    (λ s.
-    pace-by p (once p c) (each p c) (short p c) (withOffer (asWait w)) (w .behind)
+    let start = journal r .time in
+    let had = length (journal r .admissions) in
+    waits-by (once p c) (each p c) (asWait w)
+    (pace-by p (once p c) (each p c) (short p c) r (w .behind)
     (λ ds es e.
     subst (λ (r : Run). Timely p start (once p c) (each p c) had (viewAtEnd r) (journal r))
     (onward-twice (settled c) (asked ∷ []) ds)
     (in-time p c (asked ∷ ds) es (w .calls ∙ ap (λ (ks : List Call). asked ∷ ks) e) start had))
-    (polled-obeys p (record { before = withOffer (asWait w); during = w .behind; served = s })))
+    (polled-obeys p r (w .behind) s))
 
 -- the calm floor is kept from the offer on
-pub calm-delivery : CalmDelivery
+pub calm-delivery : CalmDelivery byModel
 unfolding part
 calm-delivery load samples ontime p w room urgent =
     let c = w .calm in
     let asked = offer (w .stamp) (w .packet) in
     delivery-by (floorOf c) (c .before .making) p (w .stamp) (w .packet) (settled c .calls) (w .behind) (c .before .ready) urgent
     (w .taken)
-    (λ cs ds e stamp.
+    (λ cs ds e.
     let there = part c (asked ∷ cs) ds (w .calls ∙ ap (λ (ks : List Call). asked ∷ ks) e) in
-    behind (SendsAfter (floorOf c) stamp) (withOffer (asWait w)) cs
-    (subst (λ (r : Run). SendsAfter (floorOf c) stamp (viewAtEnd r) (journal r)) (onward-twice (settled c) (asked ∷ []) cs)
-    (calm-floors load samples ontime there .always room stamp)))
+    behind (KeepsFloor (floorOf c)) (withOffer (asWait w)) cs
+    (subst (λ (r : Run). KeepsFloor (floorOf c) (viewAtEnd r) (journal r)) (onward-twice (settled c) (asked ∷ []) cs)
+    (calm-floors load samples ontime there .by-itself room)))

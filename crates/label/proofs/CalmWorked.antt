@@ -16,7 +16,7 @@ use Rattle.model.specs.Calls.{Call, count, offer, poll, stampOf, Making, making
 use Rattle.model.specs.Gate.{make}
 use Rattle.model.specs.Claims.{viewAfter, events}
 use Rattle.model.proofs.Computing.{of-runs}
-use Rattle.label.specs.Trailer.{Run, journal, answered, timeOf, messagesIn, Obeys}
+use Rattle.label.specs.Trailer.{Run, byModel, journal, timeOf, messagesIn, Obeys}
 use Rattle.label.specs.Calm.{loadsIn, alwaysRoom, calmWait, calmFloor, dutyAfter, worstDuty, settlesIn, Calm, settled}
 use Rattle.label.specs.CalmFigures.{exampleList}
 
@@ -120,7 +120,7 @@ before = record { making = gate 1; calls = jammed 4 1000 0 0 ++ (offer 0 (warnin
 during : List Call
 during = poll 1000 ∷ poll 102000 ∷ poll 103000 ∷ count 204000 0 1000 ∷ []
 
-calm : Calm 299999 4 1000
+calm : Calm byModel 299999 4 1000
 unfolding of-runs loadsIn settlesIn mostOntime before during sampling
 calm =
     record {
@@ -139,7 +139,7 @@ calm =
 same-stamp : (a b : ℕ) → poll a ≡ poll b → b ≡ a
 same-stamp a b e = sym (ap stampOf e)
 
-obeys : Obeys 1000 (journal (settled calm) .time) (journal (settled calm)) (answered (settled calm) during)
+obeys : Obeys 1000 (journal (settled calm) .time) (journal (settled calm)) (byModel .since (settled calm) during)
 unfolding calm during
 obeys = (
   omega arith,
@@ -155,12 +155,12 @@ obeys = (
   ),
 )
 
-one-message : messagesIn (settled calm) during ≡ 1
+one-message : messagesIn byModel (settled calm) during ≡ 1
 unfolding calm during
 one-message = refl
 
 exactly :
-    timeOf (settled calm) during
-    ≡ suc (messagesIn (settled calm) during) * (calmFloor (before .making) 299999 4 1000 + 1000)
+    timeOf byModel (settled calm) during
+    ≡ suc (messagesIn byModel (settled calm) during) * (calmFloor (before .making) 299999 4 1000 + 1000)
 unfolding calm during before calmFloor calmWait
 exactly = refl

@@ -31,7 +31,7 @@ use Rattle.model.specs.Claims.{All, viewAfter, events}
 use Rattle.model.proofs.Refusals.{on-call}
 use Rattle.model.proofs.Sound.{test-view}
 use Rattle.model.proofs.Runs.{runs-are-their-parts}
-use Rattle.label.specs.Trailer.{Run, viewAtEnd, told, onward, answered}
+use Rattle.label.specs.Trailer.{Run, viewAtEnd, byModel, onward}
 use Rattle.label.specs.Calm.{acceptedLoad, loadsIn, loadsSince, NoneLonger, Calm, settled, ended, floorOf}
 use Rattle.label.proofs.Restarts.{in-run}
 use Rattle.label.proofs.Settling.{sampledAll, sampled-append, sampled-all-levels, closes}
@@ -68,7 +68,7 @@ follows v (c ∷ calls) =
 
 -- of a run that goes on
 control-onward : (r : Run) (calls : List Call)
-    → viewAtEnd (onward r calls) .control ≡ sampledAll (viewAtEnd r .control) (loadsSince r calls)
+    → viewAtEnd (onward r calls) .control ≡ sampledAll (viewAtEnd r .control) (loadsSince byModel r calls)
 control-onward r calls =
     let e = runs-are-their-parts (make (r .making) .view) (opened (r .making .stamp)) (r .calls) calls .0 in
     ap (λ (w : View). w .control) e ∙ follows (viewAtEnd r) calls
@@ -104,13 +104,13 @@ all-first P [] ys h = tt
 all-first P (x ∷ xs) ys h = (h .0, all-first P xs ys (h .1))
 
 -- a calm run's waits are no longer than its calm floor
-pub calm-closes : {load samples ontime : ℕ} (c : Calm load samples ontime) (o : ℕ) → o ≤ ontime
+pub calm-closes : {load samples ontime : ℕ} (c : Calm byModel load samples ontime) (o : ℕ) → o ≤ ontime
     → closedAfter (viewAtEnd (ended c) .control) o ≤ floorOf c
 calm-closes {load} {samples} {ontime} c o g =
     let r = c .before in
     let i = in-run r in
-    let xs = loadsSince r (c .settling) in
-    let ys = loadsSince (settled c) (c .during) in
+    let xs = loadsSince byModel r (c .settling) in
+    let ys = loadsSince byModel (settled c) (c .during) in
     subst (λ (k : Control). closedAfter k o ≤ floorOf c)
     (sym
     (control-onward (settled c) (c .during)
@@ -135,12 +135,12 @@ loads-append (x ∷ xs) ys =
     ap (λ (k : List ℕ). acceptedLoad (x .0) (x .1) ++ k) (loads-append xs ys)
     ∙ sym (append-assoc (acceptedLoad (x .0) (x .1)) (loadsIn xs) (loadsIn ys))
 
-unfoldable pub part : {load samples ontime : ℕ} (c : Calm load samples ontime) (ds es : List Call) → c .during ≡ ds ++ es
-    → Calm load samples ontime
+unfoldable pub part : {load samples ontime : ℕ} (c : Calm byModel load samples ontime) (ds es : List Call) → c .during ≡ ds ++ es
+    → Calm byModel load samples ontime
 part {load} {samples} {ontime} c ds es e =
     let r = settled c in
     let later = events (viewAfter (viewAtEnd r) ds) es in
-    let stays = rw (e, events-append (viewAtEnd r) ds es, loads-append (answered r ds) later) at (c .stays) in
+    let stays = rw (e, events-append (viewAtEnd r) ds es, loads-append (byModel .since r ds) later) at (c .stays) in
     let longer =
     subst (λ (ks : List Call). NoneLonger ontime (events (make (r .making) .view) ks))
     (ap (λ (ks : List Call). r .calls ++ ks) e ∙ sym (append-assoc (r .calls) ds es)) (c .none-longer) in
@@ -153,8 +153,8 @@ part {load} {samples} {ontime} c ds es e =
       settles = c .settles;
       enough = c .enough;
       none-above = c .none-above;
-      stays = all-first _ (loadsSince r ds) _ stays;
+      stays = all-first _ (loadsSince byModel r ds) _ stays;
       none-longer =
-          all-first _ (told (onward r ds)) _
+          all-first _ (byModel .all (onward r ds)) _
           (subst (NoneLonger ontime) (events-append (make (r .making) .view) (r .calls ++ ds) es) longer);
     }

@@ -19,7 +19,7 @@ use Rattle.model.specs.declared.Admission.{Admission}
 use Rattle.model.specs.Journal.{airIn}
 use Rattle.model.specs.Claims.{All}
 use Rattle.model.proofs.DeliveryLines.{all-more}
-use Rattle.label.specs.Trailer.{Run, journal}
+use Rattle.label.specs.Trailer.{Run, byModel, journal}
 use Rattle.label.specs.Site.{sum}
 use Rattle.label.specs.Restarts.{Started, later, sentInAll, silence, Silent}
 use Rattle.label.specs.OnAir.{onAir}
@@ -132,9 +132,9 @@ paid : (profile : ℕ) (a : Admission) (next : ℕ) → Allows profile a → a .
 paid profile a next h s =
     omega (arith, fit profile .soon, mul-le-mul-left (limitsOf profile .fromend) h)
 
-module _ (profile : ℕ) (rs : Alike profile) where
+module _ (profile : ℕ) (rs : Alike byModel profile) where
   abbrev sent : List Admission
-  sent = sentInAll (rs .runs)
+  sent = sentInAll byModel (rs .runs)
 
   by-waits : (from w : ℕ) → airIn from (from + w) sent ≤ byWaits (limitsOf profile) w
   by-waits from w =
@@ -180,7 +180,7 @@ from-start (a ∷ l) = λ i. record { at = same i; ontime = a .ontime } ∷ from
     same = omega arith
 
 module _ (profile : ℕ) (r : Run) (e : r .making .profile ≡ profile) where
-  by-itself : Alike profile
+  by-itself : Alike byModel profile
   unfolding sentInAll
   by-itself =
       record {
@@ -193,11 +193,11 @@ module _ (profile : ℕ) (r : Run) (e : r .making .profile ≡ profile) where
       none-before [] = tt
       none-before (a ∷ l) = (tt, none-before l)
 
-  its-own : sentInAll (by-itself .runs) ≡ journal r .admissions
+  its-own : sentInAll byModel (by-itself .runs) ≡ journal r .admissions
   unfolding by-itself sentInAll
   its-own = from-start (journal r .admissions)
 
-pub most-holds : MostHolds
+pub most-holds : MostHolds byModel
 most-holds profile w =
     record {
       admitted =
@@ -212,10 +212,11 @@ most-holds profile w =
       on-air-in-all = heard-of;
     }
   where
-    heard-of : leastGap ≤ w → (rs : Alike profile) (from : ℕ) → onAir from (from + w) (sentInAll (rs .runs)) ≤ most profile w
+    heard-of : leastGap ≤ w → (rs : Alike byModel profile) (from : ℕ)
+        → onAir from (from + w) (sentInAll byModel (rs .runs)) ≤ most profile w
     heard-of g rs = receiver-hears (rs .runs) (rs .restarts) .as-admitted w (most profile w) g (admitted profile rs w)
 
-pub together-on-air : TogetherOnAir
+pub together-on-air : TogetherOnAir byModel
 unfolding sum
 together-on-air w g [] = omega arith
 together-on-air w g (t ∷ ts) =

@@ -16,7 +16,7 @@ use Rattle.model.specs.Journal.{airIn}
 use Rattle.model.specs.Claims.{All, Apart, mostInSecond}
 use Rattle.model.proofs.Demand3.{demand3}
 use Rattle.model.proofs.DeliveryLines.{all-more}
-use Rattle.label.specs.Trailer.{Run, journal}
+use Rattle.label.specs.Trailer.{Run, byModel, journal}
 use Rattle.label.specs.Restarts.{Started, sentInAll, Restarts, KeepsTheCeiling}
 use Rattle.label.specs.OnAir.{heard, onAir, ReceiverHears}
 use Rattle.label.proofs.Longest.{longest}
@@ -187,19 +187,19 @@ shorts [] c = tt
 shorts (a ∷ l) c = (c .0, all-short (a .at) l (c .1))
 
 -- of runs one after the other
-module _ (ss : List Started) (r : Restarts ss) where
-  whole : SoFar Ends Short (sentInAll ss)
+module _ (ss : List Started) (r : Restarts byModel ss) where
+  whole : SoFar Ends Short (sentInAll byModel ss)
   whole = row Ends Short (λ made a next h. omega arith) (λ made a h. h) (λ a next h s. omega arith) ss r (of-runs ss)
 
-  as-admitted : (w most : ℕ) → leastGap ≤ w → ((from : ℕ) → airIn from (from + w) (sentInAll ss) ≤ most)
-      → (from : ℕ) → onAir from (from + w) (sentInAll ss) ≤ most
-  as-admitted = heard-as-admitted (sentInAll ss) (shorts (sentInAll ss) whole) whole
+  as-admitted : (w most : ℕ) → leastGap ≤ w → ((from : ℕ) → airIn from (from + w) (sentInAll byModel ss) ≤ most)
+      → (from : ℕ) → onAir from (from + w) (sentInAll byModel ss) ≤ most
+  as-admitted = heard-as-admitted (sentInAll byModel ss) (shorts (sentInAll byModel ss) whole) whole
 
-  in-one : (from : ℕ) → onAir from (from + second) (sentInAll ss) ≤ mostInSecond
+  in-one : (from : ℕ) → onAir from (from + second) (sentInAll byModel ss) ≤ mostInSecond
   in-one = as-admitted second mostInSecond (omega arith) (restarts-keep ss r .in-any-second)
 
-  in-some : (n from : ℕ) → onAir from (from + n * second) (sentInAll ss) ≤ n * mostInSecond
-  in-some zero from = omega (arith, one-at-once from 0 (sentInAll ss) whole)
+  in-some : (n from : ℕ) → onAir from (from + n * second) (sentInAll byModel ss) ≤ n * mostInSecond
+  in-some zero from = omega (arith, one-at-once from 0 (sentInAll byModel ss) whole)
   in-some (suc n) from =
       let next = from + second in
       let e : from + suc n * second ≡ next + n * second = omega arith in
@@ -208,15 +208,16 @@ module _ (ss : List Started) (r : Restarts ss) where
         arith,
         in-one from,
         in-some n next,
-        adds from next (next + n * second) (sentInAll ss) (omega arith) (omega arith),
+        adds from next (next + n * second) (sentInAll byModel ss) (omega arith) (omega arith),
       ))
 
-pub receiver-hears : ReceiverHears
+pub receiver-hears : ReceiverHears byModel
 receiver-hears ss r =
     record {
       as-admitted = as-admitted ss r;
       in-a-second = in-one ss r;
       in-seconds = in-some ss r;
-      ceiling = λ c. ceiling-heard (sentInAll ss) (shorts (sentInAll ss) (whole ss r)) (restarts-keep ss r .ceiling c);
-      one-at-once = λ from w. one-at-once from w (sentInAll ss) (whole ss r);
+      ceiling = λ c.
+          ceiling-heard (sentInAll byModel ss) (shorts (sentInAll byModel ss) (whole ss r)) (restarts-keep ss r .ceiling c);
+      one-at-once = λ from w. one-at-once from w (sentInAll byModel ss) (whole ss r);
     }

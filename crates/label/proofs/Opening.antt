@@ -86,7 +86,7 @@ module _ (ontime : ℕ) (r : Run) (short : Shorter ontime (journal r)) where
         (λ u. let n = not-closed w (λ e. omega (arith, over e, tied .time)) in clash (cc))
         (λ l ls e k. rw (tied .followed .same) (le-leb _ mostAir (room l ls e))) accepted
 
-    pub goes-with-room : WaitOver v (turned j stamp .time) → HasRoom r stamp
+    pub goes-with-room : WaitOver v (turned j stamp .time) → HasRoom (journal r) stamp
         → isRefused (call v (poll stamp) .answer) ≡ false → (q : Packet) × (call v (poll stamp) .answer ≡ Sent q)
     goes-with-room over room =
         goes over (λ l ls e. subst (λ (k : List Entry). All Roomy (take 1 k)) e room .0)

@@ -15,22 +15,22 @@ use Rattle.rules.specs.Wait.{startOf}
 use Rattle.control.specs.Owed.{quiet}
 use Rattle.model.specs.declared.Packet.{Packet}
 use Rattle.model.specs.declared.Answer.{Answer}
+use Rattle.model.specs.declared.Answer.the-variants.{Taken}
 use Rattle.model.specs.Fours.{Four, four, each, column, change}
 use Rattle.model.specs.Calls.{Call, words, count, offer, poll, isSent, isRefused}
-use Rattle.model.specs.State.{View}
-use Rattle.model.specs.Gate.{make, call}
+use Rattle.model.specs.Gate.{make}
 use Rattle.model.specs.Journal.{Entry, Journal, opened, turned, outlived, picked, roomFor, atFoot, arriving, entryOf}
 use Rattle.model.specs.Journal.{entered, lowest, top, sentOf, atPoll, atOffer, recorded, fed, journalOf}
-use Rattle.model.specs.Claims.{viewAfter, events}
+use Rattle.model.specs.Claims.{events}
 use Rattle.model.specs.Delivery.{Among}
 use Rattle.model.proofs.Fours.{column-change, column-each}
 use Rattle.model.proofs.Displacing.{picked-length, on-room}
 use Rattle.model.proofs.Runs.{runs-are-their-parts}
-use Rattle.label.specs.Trailer.{Run, viewAtEnd, journal, onward, answered, timeOf, messagesIn, Served}
-use Rattle.label.specs.Priorities.{below, Wait, withOffer, callsSince, whenItCame, sinceItCame, its, before, meanwhile}
-use Rattle.label.specs.Priorities.{waited}
-use Rattle.label.specs.Priorities.{WaitsStill, ServedSince, InItsTurn, WaitsAtMost, WaitsAmongOthers, AmongWarnings}
-use Rattle.label.proofs.Rate.{rate}
+use Rattle.model.proofs.Delivery.{delivery}
+use Rattle.label.specs.Trailer.{byModel, journal}
+use Rattle.label.specs.Priorities.{below, Wait, withOffer, whenItCame, sinceItCame, its, WaitsStill, before, meanwhile}
+use Rattle.label.specs.Priorities.{went, InItsTurn, waited, WaitsAtMost, WarningsGo, WaitsAmongOthers, AmongWarnings}
+use Rattle.label.proofs.Rate.{rate-of-obeying, polled-obeys}
 
 -- the entries of a column up to an ordinal, each with n and its place in the column at most m
 module _ (o : ℕ) where
@@ -221,21 +221,26 @@ module _ (q o earlier bound : ℕ) where
       (on-cond Ahead (isRefused (e .1)) (λ u. h) (λ u. ahead-recorded j (e .0) (e .1) h))
 
 -- when it came it was the last of its column
-module _ (w : Wait) where
+module _ (w : Wait byModel) where
   abbrev q : ℕ
   q = w .packet .priority
+
+  abbrev asked : Call
+  asked = offer (w .stamp) (w .packet)
 
   abbrev was : Journal
   was = atOffer (journal (w .run)) (w .stamp) (w .packet)
 
-  abbrev bound : ℕ
-  bound = length (whenItCame w .admissions) + before w
+  abbrev LastOf : Journal → Type 0
+  LastOf j =
+      Ahead q (its w .ordinal) (below q (j .offers)) (length (j .admissions) + (its w .above + below q (j .columns))) j
 
-  came : Ahead q (its w .ordinal) (below q (whenItCame w .offers)) bound (whenItCame w)
+  came : LastOf (fed (journal (w .run)) asked Taken)
   came =
+      let j = fed (journal (w .run)) asked Taken in
       record {
         placed =
-            placed-all (its w .ordinal) _ _ (column q (whenItCame w .columns))
+            placed-all (its w .ordinal) _ _ (column q (j .columns))
             (omega (
               arith,
               ap length (column-change q (atFoot (its w)) (was .columns)),
@@ -250,48 +255,40 @@ module _ (w : Wait) where
             );
       }
 
-pub in-its-turn : InItsTurn
+  came-so : LastOf (whenItCame w)
+  unfolding events journalOf
+  came-so =
+      let r = w .run in
+      let parts = runs-are-their-parts (make (r .making) .view) (opened (r .making .stamp)) (r .calls) (asked ∷ []) in
+      subst LastOf (sym (parts .1))
+      (subst (λ (a : Answer). LastOf (fed (journal (w .run)) asked a)) (sym (w .taken)) came)
+
+pub in-its-turn : InItsTurn byModel
 in-its-turn w h =
+    let j = whenItCame w in
     let a =
-    ahead-on (q w) (its w .ordinal) (below (q w) (whenItCame w .offers)) (bound w) (whenItCame w) (callsSince w) (came w) in
+    ahead-on (q w) (its w .ordinal) (below (q w) (j .offers)) (length (j .admissions) + before w) j
+    (byModel .since (withOffer w) (w .during)) (came-so w) in
     omega (arith, placed-among (its w .ordinal) _ _ (its w) (column (q w) (sinceItCame w .columns)) (omega arith) (a .placed) h)
 
--- a rate from the offer on
-module _ (once each p : ℕ) (w : Wait)
-    (rate : Served p (journal (withOffer w) .time) (journal (withOffer w)) (answered (withOffer w) (w .during))
-    → timeOf (withOffer w) (w .during) ≤ once + suc (messagesIn (withOffer w) (w .during)) * each) where
-  abbrev Lasts : View → Journal → Type 0
-  Lasts v j =
-      Served p (j .time) j (events v (w .during))
-      → journalOf j (events v (w .during)) .time - j .time
-      ≤ once + suc (length (journalOf j (events v (w .during)) .admissions) - length (j .admissions)) * each
+-- by a rate from the offer on
+pub waits-by : (once each : ℕ) (w : Wait byModel) → (waited w ≤ once + suc (went w) * each) → WaitsStill w
+    → waited w ≤ once + suc (before w + meanwhile w) * each
+waits-by once each w rate h = omega (arith, rate, mul-le-mul-right each (more (in-its-turn w h)))
+  where
+    more : {m n : ℕ} → m ≤ n → suc m ≤ suc n
+    more k = omega arith
 
-  abbrev right : View
-  right = call (viewAtEnd (w .run)) (offer (w .stamp) (w .packet)) .view
-
-  lasts-since : Lasts right (whenItCame w)
-  unfolding viewAfter events journalOf
-  lasts-since =
-      let whole =
-      runs-are-their-parts (make (w .run .making) .view) (opened (w .run .making .stamp)) (w .run .calls)
-      (offer (w .stamp) (w .packet) ∷ []) in
-      subst (λ (a : Answer). Lasts right (fed (journal (w .run)) (offer (w .stamp) (w .packet)) a)) (w .taken)
-      (subst (Lasts right) (whole .1) (subst (λ (v : View). Lasts v (journal (withOffer w))) (whole .0) rate))
-
-  pub waits-by : ServedSince p w → WaitsStill w → waited w ≤ once + suc (before w + meanwhile w) * each
-  waits-by s h = omega (arith, lasts-since s, mul-le-mul-right each (more (in-its-turn w h)))
-    where
-      more : {m n : ℕ} → m ≤ n → suc m ≤ suc n
-      more k = omega arith
-
-pub waits-at-most : WaitsAtMost
+pub waits-at-most : WaitsAtMost byModel
 waits-at-most p w s h =
     let each = quiet (w .run .making .profile) + p in
-    omega (
-      arith,
-      waits-by 0 each p w
-          (λ q. omega (arith, rate p (record { before = withOffer w; during = w .during; served = q }))) s h,
-    )
+    let rate = rate-of-obeying p (withOffer w) (w .during) (polled-obeys p (withOffer w) (w .during) s) in
+    omega (arith, waits-by 0 each w (omega (arith, rate)) h)
+
+pub warnings-go : WarningsGo byModel
+warnings-go p w urgent =
+    let r = w .run in
+    delivery (r .making) p (w .stamp) (w .packet) (r .calls) (w .during) (r .ready) urgent (w .taken)
 
 -- others take f of each f + g µs
 share : (t f g b m : ℕ) → t ≤ suc (b + m) * f → m * (f + g) ≤ t + (f + g) → t * g ≤ (b + 2) * f * (f + g)
@@ -318,7 +315,7 @@ share t f g b m h k =
     two : (b + 2) * f ≡ suc b * f + f
     two = let e : b + 2 ≡ suc (suc b) = omega arith in rw e (suc-mul (suc b) f)
 
-pub waits-among-others : WaitsAmongOthers
+pub waits-among-others : WaitsAmongOthers byModel
 waits-among-others p every w s h o l =
     let f = quiet (w .run .making .profile) + p in
     let e : f + (every - f) ≡ every = omega arith in

@@ -15,7 +15,7 @@ use Rattle.model.specs.Calls.{count, offer, poll, makingOf}
 use Rattle.model.specs.Gate.{call}
 use Rattle.model.specs.Claims.{viewAfter}
 use Rattle.model.proofs.Computing.{of-runs}
-use Rattle.label.specs.Trailer.{Run, viewAtEnd}
+use Rattle.label.specs.Trailer.{Run, viewAtEnd, byModel}
 use Rattle.label.specs.Priorities.{Wait, WaitsStill, before, meanwhile, went, ServedSince, waited}
 use Rattle.label.proofs.Example.{same-stamp}
 use Rattle.label.proofs.Priorities.{in-its-turn, waits-at-most, waits-among-others}
@@ -41,7 +41,7 @@ two =
       ready = refl;
     }
 
-third : Wait
+third : Wait byModel
 unfolding of-runs message two
 third =
     record {

@@ -27,7 +27,7 @@ use Rattle.model.specs.Journal.{Journal, opened, airIn, journalOf}
 use Rattle.model.specs.Claims.{viewAfter, events}
 use Rattle.model.proofs.Computing.{of-runs, of-waits}
 use Rattle.model.proofs.Runs.{run-on, run-begins, runs-are-their-parts}
-use Rattle.label.specs.Trailer.{Run, journal}
+use Rattle.label.specs.Trailer.{Run, byModel, journal}
 use Rattle.label.specs.OnAir.{onAir}
 use Rattle.label.specs.Most.{most, Reached, ReachedBy, MostReached}
 use Rattle.label.proofs.Beats.{Steady, Beat, beats, ticks, run-beats, air-ticks, heard-ticks}
@@ -36,7 +36,7 @@ use Rattle.label.proofs.Beats.{Steady, Beat, beats, ticks, run-beats, a
 abbrev Reaching : (profile period ontime : ℕ) → Type 0
 Reaching profile period ontime =
     (n w : ℕ) → leb (n * period) endOfTime ≡ true → leb n mostOffers ≡ true → leb (n * period + ontime) (w + period) ≡ true
-    → n * ontime ≡ most profile w → Reached profile w
+    → n * ontime ≡ most profile w → Reached byModel profile w
 
 -- a run that begins with some calls, and then sends steadily
 module _ (m : Making) (first : List Call) (ready : make m .answer ≡ Ready) (k : Control) (period ontime others : ℕ)
@@ -167,21 +167,21 @@ from-raised : Reaching 3 125000 3750
 unfolding made
 from-raised = reaches (made 3) (calm 400) ready-3 raised 125000 3750 7 steady-3 (raised-beat ready-3)
 
-reached-1 : ReachedBy 1
+reached-1 : ReachedBy byModel 1
 unfolding of-runs made most claimsCeiling
 reached-1 = (go 10 _ refl refl refl refl, go 595 _ refl refl refl refl, go 35644 _ refl refl refl refl)
   where
     go : Reaching 1 101000 1000
     go = from-fresh 1 refl refl 101000 1000 9 steady-1
 
-reached-2 : ReachedBy 2
+reached-2 : ReachedBy byModel 2
 unfolding of-runs made most claimsCeiling
 reached-2 = (go 20 _ refl refl refl refl, go 1189 _ refl refl refl refl, go 71288 _ refl refl refl refl)
   where
     go : Reaching 2 50500 500
     go = from-fresh 2 refl refl 50500 500 19 steady-2
 
-reached-3 : ReachedBy 3
+reached-3 : ReachedBy byModel 3
 unfolding most claimsCeiling within
 reached-3 = (
   from-raised 8 _ refl refl refl refl,
@@ -189,19 +189,19 @@ reached-3 = (
   from-raised 28800 _ refl refl refl refl,
 )
 
-reached-4 : ReachedBy 4
+reached-4 : ReachedBy byModel 4
 unfolding of-runs made most claimsCeiling
 reached-4 = (go 8 _ refl refl refl refl, go 480 _ refl refl refl refl, go 28800 _ refl refl refl refl)
   where
     go : Reaching 4 125000 3750
     go = from-fresh 4 refl refl 125000 3750 7 steady-4
 
-reached-5 : ReachedBy 5
+reached-5 : ReachedBy byModel 5
 unfolding of-runs made most claimsCeiling
 reached-5 = (go 25 _ refl refl refl refl, go 1464 _ refl refl refl refl, go 87805 _ refl refl refl refl)
   where
     go : Reaching 5 41000 1000
     go = from-fresh 5 refl refl 41000 1000 24 steady-5
 
-pub most-reached : MostReached
+pub most-reached : MostReached byModel
 most-reached = (reached-1, reached-2, reached-3, reached-4, reached-5)

@@ -11,7 +11,7 @@ use Rattle.rules.proofs.Tests.{tested}
 use Rattle.model.specs.declared.Answer.{Answer}
 use Rattle.model.specs.Calls.{Call}
 use Rattle.model.specs.Journal.{Journal, fed, journalOf}
-use Rattle.label.specs.Trailer.{journal, answered}
+use Rattle.label.specs.Trailer.{byModel, journal}
 use Rattle.label.specs.Calm.{acceptedLoad, loadsIn, loadsSince}
 use Rattle.label.specs.CalmRate.{lastSample, SampledEvery, Recovers}
 
@@ -35,11 +35,11 @@ module _ (every start : ℕ) where
       omega (arith, length-append xs (loadsIn es)) in
       rw many (in-time (n + length xs) _ (fed j (e .0) (e .1)) es (s .1) (t .1) (t .0))
 
-pub recovers : Recovers
+pub recovers : Recovers byModel
 recovers every samples r calls s h =
-    let n = length (loadsSince r calls) in
+    let n = length (loadsSince byModel r calls) in
     let start = journal r .time in
-    let late = in-time every start 0 start (journal r) (answered r calls) s (omega arith) (omega arith) in
+    let late = in-time every start 0 start (journal r) (byModel .since r calls) s (omega arith) (omega arith) in
     let many : suc (0 + n) ≡ suc n = omega arith in
     split (leb samples n) (λ e. omega tested)
     (λ e.

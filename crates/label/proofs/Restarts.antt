@@ -13,7 +13,7 @@ use Rattle.model.specs.Claims.{All, mostInSecond}
 use Rattle.model.proofs.Window.{Spaced, SpacedSoFar, window}
 use Rattle.model.proofs.Runs.{InRun, run-on, run-begins}
 use Rattle.model.proofs.DeliveryLines.{all-more}
-use Rattle.label.specs.Trailer.{Run, viewAtEnd, journal}
+use Rattle.label.specs.Trailer.{Run, viewAtEnd, byModel, journal}
 use Rattle.label.specs.Restarts.{Started, later, sentIn, sentInAll, silence, Silent, Restarts, KeepsSecond}
 use Rattle.label.specs.Restarts.{KeepsTheCeiling, RestartsKeep, WaitingRestarts}
 use Rattle.label.proofs.Second.{second-of}
@@ -46,20 +46,20 @@ spaced : (l : List Admission) → SoFar Gap Fits l → SpacedSoFar l
 spaced [] s = tt
 spaced (a ∷ l) s = (s .0, chain-spaced (a .at) l (s .1))
 
-ceiling-row : (ss : List Started) → Restarts ss → All (λ (s : Started). claimsCeiling (s .run .making .profile) ≡ true) ss
-    → KeepsTheCeiling (sentInAll ss)
+ceiling-row : (ss : List Started) → Restarts byModel ss → All (λ (s : Started). claimsCeiling (s .run .making .profile) ≡ true) ss
+    → KeepsTheCeiling (sentInAll byModel ss)
 ceiling-row ss r c from w =
-    window from w (sentInAll ss)
-    (spaced (sentInAll ss)
+    window from w (sentInAll byModel ss)
+    (spaced (sentInAll byModel ss)
     (row Gap Fits (λ made a next h. omega arith) (λ made a h. h) (λ a next h s. omega arith) ss r
     (all-more _ _ ss
     (λ s e. chained (journal (s .run) .admissions) (in-run (s .run) .tied .spaced (rw (in-run (s .run) .same) e))) c)))
 
-second-row : (ss : List Started) → Restarts ss → KeepsSecond (sentInAll ss)
+second-row : (ss : List Started) → Restarts byModel ss → KeepsSecond (sentInAll byModel ss)
 unfolding sentInAll airIn
 second-row [] r from = omega arith
 second-row (s ∷ ss) r from =
-    one-of-two from mostInSecond (sentIn s) (sentInAll ss) (r .0)
+    one-of-two from mostInSecond (sentIn byModel s) (sentInAll byModel ss) (r .0)
     (omega (
       arith,
       moved (s .made) from (from + second) (from - s .made + second) (journal (s .run) .admissions) (omega arith),
@@ -67,7 +67,7 @@ second-row (s ∷ ss) r from =
     ))
     (second-row ss (r .1) from)
 
-pub restarts-keep : RestartsKeep
+pub restarts-keep : RestartsKeep byModel
 restarts-keep ss r = record { in-any-second = second-row ss r; ceiling = ceiling-row ss r }
 
 -- a host that waits first
@@ -76,7 +76,7 @@ silent : (made : ℕ) (l before : List Admission) → All (λ (a : Admission). a
 silent made [] before h k = tt
 silent made (b ∷ l) before h k = (all-more _ _ before (λ a e. omega (arith, k .0)) h, silent made l before h (k .1))
 
-pub waiting-restarts : WaitingRestarts
+pub waiting-restarts : WaitingRestarts byModel
 waiting-restarts [] h = tt
 waiting-restarts (s ∷ ss) h =
-    (silent (s .made) (journal (s .run) .admissions) (sentInAll ss) (h .0) (h .1), waiting-restarts ss (h .2))
+    (silent (s .made) (journal (s .run) .admissions) (sentInAll byModel ss) (h .0) (h .1), waiting-restarts ss (h .2))

@@ -10,7 +10,7 @@ use Rattle.model.specs.Calls.{Call, offer, poll, makingOf}
 use Rattle.model.specs.Journal.{airTime, airIn}
 use Rattle.model.specs.Claims.{All}
 use Rattle.model.proofs.Computing.{of-runs}
-use Rattle.label.specs.Trailer.{Run}
+use Rattle.label.specs.Trailer.{Run, byModel}
 use Rattle.label.specs.Restarts.{Started, sentIn, sentInAll, Restarts, WaitsFirst}
 use Rattle.label.specs.OnAir.{onAir}
 use Rattle.label.specs.Most.{most, Alike}
@@ -33,7 +33,7 @@ makes zero = []
 makes (suc n) = record { run = at-once; made = 4000 * n } ∷ makes n
 
 -- each keeps its second, and a second of them is on air without a pause
-on-without-pause : airIn 0 1000000 (sentInAll (makes 250)) ≡ 1000000
+on-without-pause : airIn 0 1000000 (sentInAll byModel (makes 250)) ≡ 1000000
 unfolding of-runs sends at-once makes sentInAll
 on-without-pause = refl
 
@@ -41,7 +41,7 @@ on-without-pause = refl
 abbrev pair : List Started
 pair = record { run = at-once; made = 133333 } ∷ record { run = at-once; made = 0 } ∷ []
 
-above-the-ceiling : 100 * airTime 0 133333 (sentInAll pair) ≡ 3 * 133333 + 400000 + 1
+above-the-ceiling : 100 * airTime 0 133333 (sentInAll byModel pair) ≡ 3 * 133333 + 400000 + 1
 unfolding of-runs sends at-once sentInAll
 above-the-ceiling = refl
 
@@ -63,8 +63,9 @@ seven =
       ready = refl;
     }
 
-too-soon : (airIn 0 1000000 (sentIn (record { run = seven; made = 0 })) ≡ 26001)
-    × (airIn 0 1000000 (sentInAll (record { run = at-once; made = 999999 } ∷ record { run = seven; made = 0 } ∷ [])) ≡ 30001)
+too-soon : (airIn 0 1000000 (sentIn byModel (record { run = seven; made = 0 })) ≡ 26001)
+    × (airIn 0 1000000 (sentInAll byModel (record { run = at-once; made = 999999 } ∷ record { run = seven; made = 0 } ∷ []))
+    ≡ 30001)
 unfolding of-runs sends at-once seven sentInAll
 too-soon = (refl, refl)
 
@@ -77,7 +78,7 @@ by-themselves = refl
 abbrev in-order : List Started
 in-order = record { run = at-once; made = 1000000 } ∷ record { run = at-once; made = 0 } ∷ []
 
-follows : Restarts in-order
+follows : Restarts byModel in-order
 unfolding of-runs sends at-once sentInAll
 follows = (((omega arith, tt), tt), ((tt, tt), tt))
 
@@ -85,7 +86,7 @@ patient : Run
 unfolding of-runs sends
 patient = record { making = makingOf 4 0 noLevels 0; calls = sends 1000000 4000; ready = refl }
 
-waits-first : WaitsFirst (record { run = patient; made = 1000001 } ∷ record { run = patient; made = 1 } ∷ [])
+waits-first : WaitsFirst byModel (record { run = patient; made = 1000001 } ∷ record { run = patient; made = 1 } ∷ [])
 unfolding of-runs sends patient sentInAll
 waits-first = ((omega arith, tt), (omega arith, tt), (tt, (omega arith, tt), tt))
 

@@ -4,7 +4,7 @@ use Prim.Native.Nat.{ℕ, _+_, _≤_}
 use mathlib.Core.List.{List, [], _∷_, _++_, map}
 use Rattle.model.specs.declared.Admission.{Admission}
 use Rattle.model.specs.Claims.{All}
-use Rattle.label.specs.Trailer.{journal}
+use Rattle.label.specs.Trailer.{byModel, journal}
 use Rattle.label.specs.Restarts.{Started, later, sentIn, sentInAll, silence, Silent, Restarts}
 
 -- owes: what an admission owes to the time of the next; alone: what it keeps by itself
@@ -50,10 +50,10 @@ module _ (owes : Admission → ℕ → Type 0) (alone : Admission → Type 0) wh
       joined-so-far (b ∷ []) (a ∷ before) s h k = (h .0, (paid a (b .at) (k .0) (s .0 .0), k .0, k .1))
       joined-so-far (b ∷ d ∷ after) before s h k = (h .0, chain-joined (b .at) d after before (s .1) k (h .1))
 
-      pub row : (ss : List Started) → Restarts ss → All (λ (s : Started). SoFar (journal (s .run) .admissions)) ss
-          → SoFar (sentInAll ss)
+      pub row : (ss : List Started) → Restarts byModel ss → All (λ (s : Started). SoFar (journal (s .run) .admissions)) ss
+          → SoFar (sentInAll byModel ss)
       unfolding sentInAll
       row [] r h = tt
       row (s ∷ ss) r h =
-          joined-so-far (sentIn s) (sentInAll ss) (r .0) (moved-so-far (s .made) (journal (s .run) .admissions) (h .0))
-          (row ss (r .1) (h .1))
+          joined-so-far (sentIn byModel s) (sentInAll byModel ss) (r .0)
+          (moved-so-far (s .made) (journal (s .run) .admissions) (h .0)) (row ss (r .1) (h .1))

@@ -10,7 +10,7 @@ use Rattle.rules.proofs.Tests.{tested}
 use Rattle.model.specs.declared.Admission.{Admission}
 use Rattle.model.specs.Journal.{airIn}
 use Rattle.model.proofs.Demand3.{demand3}
-use Rattle.label.specs.Trailer.{Run, journal, Second}
+use Rattle.label.specs.Trailer.{Run, byModel, journal, Second}
 
 -- an admission counts in one of two stretches that follow one another
 abbrev counts : (from until : ℕ) → Admission → ℕ
@@ -71,7 +71,7 @@ second-of r from = demand3 (r .making) (r .calls) (r .ready) .in-any-second from
 in-seconds : (r : Run) (n from : ℕ) → airIn from (from + n * 1000000) (journal r .admissions) ≤ n * 30000
 in-seconds r = seconds (journal r .admissions) (second-of r)
 
-pub second : Second
+pub second : Second byModel
 second =
     record {
       in-a-second = λ r from. omega (arith, second-of r from);

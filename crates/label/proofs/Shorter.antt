@@ -27,7 +27,7 @@ use Rattle.model.proofs.Refusals.{on-call}
 use Rattle.model.proofs.Profile.{call-profile}
 use Rattle.model.proofs.Runs.{run-begins}
 use Rattle.model.proofs.Displacing.{on-room}
-use Rattle.label.specs.Trailer.{Run, told, journal}
+use Rattle.label.specs.Trailer.{Run, byModel, journal}
 use Rattle.label.specs.Calm.{ontimeIn, NoneLonger, NeverLonger}
 
 module _ (ontime : ℕ) where
@@ -113,8 +113,9 @@ module _ (ontime : ℕ) where
   told-shorter j [] g h = h
   told-shorter j (e ∷ es) g h = told-shorter (fed j (e .0) (e .1)) es (g .1) (fed-shorter j (e .0) (e .1) (g .0) h)
 
-  pub run-shorter : (r : Run) → NoneLonger ontime (told r) → Shorter (journal r)
-  run-shorter r g = told-shorter (opened (r .making .stamp)) (told r) g (record { waiting = (tt, tt, tt, tt); admitted = tt })
+  pub run-shorter : (r : Run) → NoneLonger ontime (byModel .all r) → Shorter (journal r)
+  run-shorter r g =
+      told-shorter (opened (r .making .stamp)) (byModel .all r) g (record { waiting = (tt, tt, tt, tt); admitted = tt })
 
 -- What is taken, its profile allows.
 
@@ -142,7 +143,7 @@ all-allowed v (c ∷ calls) = (
       (all-allowed (call v c .view) calls),
 )
 
-pub never-longer : NeverLonger
+pub never-longer : NeverLonger byModel
 never-longer r =
-    subst (λ (p : ℕ). NoneLonger (mostOntime p) (told r)) (run-begins (r .making) (r .ready) .same)
+    subst (λ (p : ℕ). NoneLonger (mostOntime p) (byModel .all r)) (run-begins (r .making) (r .ready) .same)
     (all-allowed (make (r .making) .view) (r .calls))

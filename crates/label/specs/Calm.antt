@@ -21,10 +21,10 @@ use Rattle.control.specs.Owed.{second}
 use Rattle.model.specs.declared.Answer.{Answer}
 use Rattle.model.specs.Calls.{Call, words, count, offer, poll, Making, isRefused}
 use Rattle.model.specs.Ledger.{airOf}
-use Rattle.model.specs.Journal.{Entry, turned, atPoll, top, lastSecond}
+use Rattle.model.specs.Journal.{Entry, Journal, turned, atPoll, top, lastSecond}
 use Rattle.model.specs.Claims.{All, mostInSecond}
 use Rattle.model.specs.Delivery.{SendsAfter}
-use Rattle.label.specs.Trailer.{Run, viewAtEnd, told, journal, onward, answered}
+use Rattle.label.specs.Trailer.{Run, Answers, bookOf, onward}
 
 -- What a run tells of the channel and of its packets.
 
@@ -46,8 +46,8 @@ loadsIn [] = []
 loadsIn (e ∷ es) = acceptedLoad (e .0) (e .1) ++ loadsIn es
 
 -- those of calls from the end of a run on
-abbrev pub loadsSince : Run → List Call → List ℕ
-loadsSince r calls = loadsIn (answered r calls)
+abbrev pub loadsSince : Answers → Run → List Call → List ℕ
+loadsSince by r calls = loadsIn (by .since r calls)
 
 -- none of some loads is above one
 abbrev pub NoneAbove : (load : ℕ) → List ℕ → Type 0
@@ -65,8 +65,8 @@ abbrev pub NoneLonger : (ontime : ℕ) → List (Call × Answer) → Type 0
 NoneLonger ontime es = All (λ (e : Call × Answer). isRefused (e .1) ≡ false → ontimeIn (e .0) ≤ ontime) es
 
 -- none that a run takes is longer than its profile allows
-abbrev pub NeverLonger : Type 0
-NeverLonger = (r : Run) → NoneLonger (mostOntime (r .making .profile)) (told r)
+abbrev pub NeverLonger : Answers → Type 0
+NeverLonger by = (r : Run) → NoneLonger (mostOntime (r .making .profile)) (by .all r)
 
 -- How long the gate is closed after a packet, at most: by the load, the samples since the jam, the on-time.
 
@@ -114,7 +114,7 @@ settlesIn profile = byProfile profile 4 4 0 1 50
 -- a run up to some moment, whatever it was, as a jam of any length; then calls with so many accepted samples
 -- or more, in which it settles; then the calls that a figure is about. From that moment on no accepted sample
 -- is above a load, and in all of it no packet that is taken is longer than an on-time
-pub record Calm (load samples ontime : ℕ) : Type 0 where
+pub record Calm (by : Answers) (load samples ontime : ℕ) : Type 0 where
   pub before : Run
   pub settling : List Call
   pub during : List Call
@@ -122,30 +122,32 @@ pub record Calm (load samples ontime : ℕ) : Type 0 where
   pub a-load : load ≤ fullLoad
   pub an-ontime : ontime ≤ mostOntime (before .making .profile)
   pub settles : settlesIn (before .making .profile) ≤ samples
-  pub enough : samples ≤ length (loadsSince before settling)
-  pub none-above : NoneAbove load (loadsSince before settling)
-  pub stays : NoneAbove load (loadsSince (onward before settling) during)
-  pub none-longer : NoneLonger ontime (told (onward (onward before settling) during))
+  pub enough : samples ≤ length (loadsSince by before settling)
+  pub none-above : NoneAbove load (loadsSince by before settling)
+  pub stays : NoneAbove load (loadsSince by (onward before settling) during)
+  pub none-longer : NoneLonger ontime (by .all (onward (onward before settling) during))
 
 -- the run once it has settled, and at its end
-abbrev pub settled : {load samples ontime : ℕ} → Calm load samples ontime → Run
+abbrev pub settled : {by : Answers} {load samples ontime : ℕ} → Calm by load samples ontime → Run
 settled c = onward (c .before) (c .settling)
 
-abbrev pub ended : {load samples ontime : ℕ} → Calm load samples ontime → Run
+abbrev pub ended : {by : Answers} {load samples ontime : ℕ} → Calm by load samples ontime → Run
 ended c = onward (settled c) (c .during)
 
--- its calm floor
-abbrev pub floorOf : {load samples ontime : ℕ} → Calm load samples ontime → ℕ
-floorOf {load} {samples} {ontime} c = calmFloor (c .before .making) load samples ontime
+-- its profile, and its calm floor
+abbrev pub profileOf : {by : Answers} {load samples ontime : ℕ} → Calm by load samples ontime → ℕ
+profileOf c = c .before .making .profile
+
+abbrev pub floorOf : {by : Answers} {load samples ontime : ℕ} → Calm by load samples ontime → ℕ
+floorOf {by} {load} {samples} {ontime} c = calmFloor (c .before .making) load samples ontime
 
 -- "sent only if its on-time plus all on-times admitted in the 1,000,000 µs up to and including now .. is at
 -- most 30,000" (document 02, W-207): so it is with the packet that a poll finds
-abbrev pub HasRoom : Run → (stamp : ℕ) → Type 0
-HasRoom r stamp =
+abbrev pub HasRoom : Journal → (stamp : ℕ) → Type 0
+HasRoom j stamp =
     All (λ (l : Entry).
-    l .packet .ontime + airOf (lastSecond (turned (journal r) stamp .time) (journal r .admissions))
-    ≤ mostInSecond)
-    (top (atPoll (journal r) stamp .columns))
+    l .packet .ontime + airOf (lastSecond (turned j stamp .time) (j .admissions)) ≤ mostInSecond)
+    (top (atPoll j stamp .columns))
 
 -- it always is where as many packets as the least wait lets into a second take 30,000 µs at most: in profiles
 -- 1, 2 and 5 all of them, in profiles 3 and 4 those of 750 µs or less
@@ -154,11 +156,13 @@ alwaysRoom profile ontime = leb (ontime * ceilDiv second (limitsOf profile .leas
 
 -- at the end of a calm run, and so at any point of one: the calm floor where the second has room, and by
 -- itself where it always has
-pub record CalmFloor {load samples ontime : ℕ} (c : Calm load samples ontime) : Type 0 where
-  pub with-room : (stamp : ℕ) → HasRoom (ended c) stamp
-      → SendsAfter (floorOf c) stamp (viewAtEnd (ended c)) (journal (ended c))
-  pub always : alwaysRoom (c .before .making .profile) ontime ≡ true
-      → (stamp : ℕ) → SendsAfter (floorOf c) stamp (viewAtEnd (ended c)) (journal (ended c))
+pub record CalmFloor (by : Answers) (load samples ontime : ℕ) (c : Calm by load samples ontime) : Type 0 where
+  pub with-room : (stamp : ℕ) → HasRoom (bookOf by (ended c)) stamp
+      → SendsAfter (floorOf c) stamp (by .next (ended c) (poll stamp)) (bookOf by (ended c))
+  pub by-itself : alwaysRoom (profileOf c) ontime ≡ true
+      → (stamp : ℕ)
+      → SendsAfter (floorOf c) stamp (by .next (ended c) (poll stamp)) (bookOf by (ended c))
 
-abbrev pub CalmFloors : Type 0
-CalmFloors = (load samples ontime : ℕ) (c : Calm load samples ontime) → CalmFloor c
+abbrev pub CalmFloors : Answers → Type 0
+CalmFloors by =
+    (load samples ontime : ℕ) (c : Calm by load samples ontime) → CalmFloor by load samples ontime c

@@ -11,14 +11,14 @@ use Rattle.model.specs.declared.Offer.{Offer}
 use Rattle.model.specs.declared.Answer.{Answer}
 use Rattle.model.specs.declared.Answer.the-variants.{Taken}
 use Rattle.model.specs.Calls.{Call, offer, Making}
-use Rattle.model.specs.Gate.{call}
 use Rattle.model.specs.Journal.{Journal, fed}
 use Rattle.model.specs.Claims.{mostInSecond}
 use Rattle.model.specs.Delivery.{OfferedBy}
-use Rattle.label.specs.Trailer.{Run, viewAtEnd, journal, answered, timeOf, messagesIn, ObeysFrom}
-use Rattle.label.specs.Priorities.{Wait, withOffer, its, WaitsStill, before, meanwhile, ServedSince}
-use Rattle.label.specs.Priorities.{waited}
-use Rattle.label.specs.Calm.{acceptedLoad, loadsSince, alwaysRoom, calmFloor, Calm, settled, floorOf}
+use Rattle.label.specs.Trailer.{Run, Answers, bookOf, timeOf, messagesIn, ObeysFrom}
+use Rattle.label.specs.Priorities.{Wait, withOffer, whenItCame, its, WaitsStill, before, meanwhile}
+use Rattle.label.specs.Priorities.{ServedSince, waited}
+use Rattle.label.specs.Calm.{acceptedLoad, loadsSince, calmFloor, Calm, settled, profileOf, floorOf}
+use Rattle.label.specs.Calm.{alwaysRoom}
 
 -- so many packets of an on-time fit into a second
 abbrev pub inASecond : (ontime : ℕ) → ℕ
@@ -37,13 +37,13 @@ calmOnce profile ontime = cond (alwaysRoom profile ontime) 0 second
 
 -- "(n + 1) x (Q + p) for n messages", or "1 s and (n + 1) x the longer of Q + p and a share of 1 s + p": of
 -- a host that obeys CLOSED so late, and so of one that polls at least that often
-abbrev pub CalmRate : Type 0
-CalmRate =
-    (load samples ontime late : ℕ) (c : Calm load samples ontime) → ObeysFrom late (settled c) (c .during)
-    → timeOf (settled c) (c .during)
-    ≤ calmOnce (c .before .making .profile) ontime
-    + suc (messagesIn (settled c) (c .during))
-    * calmEach (c .before .making .profile) (floorOf c) ontime late
+abbrev pub CalmRate : Answers → Type 0
+CalmRate by =
+    (load samples ontime late : ℕ) (c : Calm by load samples ontime)
+    → ObeysFrom by late (settled c) (c .during)
+    → timeOf by (settled c) (c .during)
+    ≤ calmOnce (profileOf c) ontime
+    + suc (messagesIn by (settled c) (c .during)) * calmEach (profileOf c) (floorOf c) ontime late
 
 -- so many times so long are over before a time is
 abbrev pub timesIn : (time each : ℕ) → ℕ
@@ -59,27 +59,27 @@ abbrev pub calmMessages : Making → (load samples ontime late time : ℕ) → �
 calmMessages m load samples ontime late time =
     messagesBy (m .profile) (calmFloor m load samples ontime) ontime late time
 
-abbrev pub CalmMessages : Type 0
-CalmMessages =
-    (load samples ontime late time : ℕ) (c : Calm load samples ontime)
-    → ObeysFrom late (settled c) (c .during)
-    → time ≤ timeOf (settled c) (c .during)
-    → calmMessages (c .before .making) load samples ontime late time ≤ messagesIn (settled c) (c .during)
+abbrev pub CalmMessages : Answers → Type 0
+CalmMessages by =
+    (load samples ontime late time : ℕ) (c : Calm by load samples ontime)
+    → ObeysFrom by late (settled c) (c .during)
+    → time ≤ timeOf by (settled c) (c .during)
+    → calmMessages (c .before .making) load samples ontime late time ≤ messagesIn by (settled c) (c .during)
 
 -- How long a packet waits on a calm channel.
 
 -- a packet that is TAKEN once the run has settled, and calls behind it
-pub record CalmWait (load samples ontime : ℕ) : Type 0 where
-  pub calm : Calm load samples ontime
+pub record CalmWait (by : Answers) (load samples ontime : ℕ) : Type 0 where
+  pub calm : Calm by load samples ontime
   pub stamp : ℕ
   pub packet : Offer
-  pub taken : call (viewAtEnd (settled calm)) (offer stamp packet) .answer ≡ Taken
+  pub taken : by .next (settled calm) (offer stamp packet) ≡ Taken
   pub behind : List Call
   -- the calls that the figure is about: its offer and those
   pub calls : calm .during ≡ offer stamp packet ∷ behind
 
 -- it is one of the waits of "How long may a status message wait?"
-abbrev pub asWait : {load samples ontime : ℕ} → CalmWait load samples ontime → Wait
+abbrev pub asWait : {by : Answers} {load samples ontime : ℕ} → CalmWait by load samples ontime → Wait by
 asWait w =
     record {
       run = settled (w .calm);
@@ -90,25 +90,25 @@ asWait w =
     }
 
 -- "(before it + meanwhile + 1) x (Q + p)", with the calm floor
-abbrev pub CalmWaits : Type 0
-CalmWaits =
-    (load samples ontime p : ℕ) (w : CalmWait load samples ontime) → ServedSince p (asWait w)
+abbrev pub CalmWaits : Answers → Type 0
+CalmWaits by =
+    (load samples ontime p : ℕ) (w : CalmWait by load samples ontime) → ServedSince p (asWait w)
     → WaitsStill (asWait w)
     → waited (asWait w)
-    ≤ calmOnce (w .calm .before .making .profile) ontime
+    ≤ calmOnce (profileOf (w .calm)) ontime
     + suc (before (asWait w) + meanwhile (asWait w))
-    * calmEach (w .calm .before .making .profile) (floorOf (w .calm)) ontime p
+    * calmEach (profileOf (w .calm)) (floorOf (w .calm)) ontime p
 
 -- "(k + 1) x (Q + p)" for a warning with k before it, which is sent by then, and neither expires nor is
 -- displaced: with the conditions of "How long may a lane-closure warning wait?", where the second always has
 -- room
-abbrev pub CalmDelivery : Type 0
-CalmDelivery =
-    (load samples ontime p : ℕ) (w : CalmWait load samples ontime)
-    → alwaysRoom (w .calm .before .making .profile) ontime ≡ true
+abbrev pub CalmDelivery : Answers → Type 0
+CalmDelivery by =
+    (load samples ontime p : ℕ) (w : CalmWait by load samples ontime)
+    → alwaysRoom (profileOf (w .calm)) ontime ≡ true
     → w .packet .priority ≡ 0
-    → OfferedBy (floorOf (w .calm)) (w .calm .before .making) p (its (asWait w))
-    (viewAtEnd (withOffer (asWait w))) (journal (withOffer (asWait w))) (w .behind)
+    → OfferedBy (floorOf (w .calm)) (w .calm .before .making) p (its (asWait w)) (whenItCame (asWait w))
+    (by .since (withOffer (asWait w)) (w .behind))
 
 -- How soon after a jam.
 
@@ -128,9 +128,9 @@ SampledEvery every last j (e ∷ es) =
     (fed j (e .0) (e .1)) es
 
 -- more than n times that later n samples have come: as many as the profile settles in, and the figures hold
-abbrev pub Recovers : Type 0
-Recovers =
+abbrev pub Recovers : Answers → Type 0
+Recovers by =
     (every samples : ℕ) (r : Run) (calls : List Call)
-    → SampledEvery every (journal r .time) (journal r) (answered r calls)
-    → samples * every < timeOf r calls
-    → samples ≤ length (loadsSince r calls)
+    → SampledEvery every (bookOf by r .time) (bookOf by r) (by .since r calls)
+    → samples * every < timeOf by r calls
+    → samples ≤ length (loadsSince by r calls)

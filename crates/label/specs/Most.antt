@@ -10,7 +10,7 @@ use Rattle.rules.specs.Wait.{ceilDiv}
 use Rattle.control.specs.Owed.{spare, second, leastGap, claimsCeiling}
 use Rattle.model.specs.Journal.{airIn}
 use Rattle.model.specs.Claims.{All, mostInSecond}
-use Rattle.label.specs.Trailer.{Run, journal}
+use Rattle.label.specs.Trailer.{Run, Answers, bookOf}
 use Rattle.label.specs.Site.{sum}
 use Rattle.label.specs.Restarts.{Started, sentInAll, Restarts}
 use Rattle.label.specs.OnAir.{onAir}
@@ -42,32 +42,32 @@ unfoldable pub most : (profile w : ℕ) → ℕ
 most profile w = min (byWaits (limitsOf profile) w) (byClaims (claimsCeiling profile) w)
 
 -- runs of one profile, one after the other
-pub record Alike (profile : ℕ) : Type 0 where
+pub record Alike (by : Answers) (profile : ℕ) : Type 0 where
   pub runs : List Started
-  pub restarts : Restarts runs
+  pub restarts : Restarts by runs
   pub same : All (λ (s : Started). s .run .making .profile ≡ profile) runs
 
 -- "admitted in any stretch, its end not counted, at most"; and so much is on air in it, at most, where it is
 -- 25 ms or longer
-pub record AtMost (profile w : ℕ) : Type 0 where
+pub record AtMost (by : Answers) (profile w : ℕ) : Type 0 where
   pub admitted : (r : Run) → r .making .profile ≡ profile
-      → (from : ℕ) → airIn from (from + w) (journal r .admissions) ≤ most profile w
+      → (from : ℕ) → airIn from (from + w) (bookOf by r .admissions) ≤ most profile w
   pub on-air : leastGap ≤ w → (r : Run) → r .making .profile ≡ profile
-      → (from : ℕ) → onAir from (from + w) (journal r .admissions) ≤ most profile w
+      → (from : ℕ) → onAir from (from + w) (bookOf by r .admissions) ≤ most profile w
   -- and across restarts
-  pub admitted-in-all : (rs : Alike profile) (from : ℕ)
-      → airIn from (from + w) (sentInAll (rs .runs)) ≤ most profile w
+  pub admitted-in-all : (rs : Alike by profile) (from : ℕ)
+      → airIn from (from + w) (sentInAll by (rs .runs)) ≤ most profile w
   pub on-air-in-all : leastGap ≤ w
-      → (rs : Alike profile) (from : ℕ) → onAir from (from + w) (sentInAll (rs .runs)) ≤ most profile w
+      → (rs : Alike by profile) (from : ℕ) → onAir from (from + w) (sentInAll by (rs .runs)) ≤ most profile w
 
-abbrev pub MostHolds : Type 0
-MostHolds = (profile w : ℕ) → AtMost profile w
+abbrev pub MostHolds : Answers → Type 0
+MostHolds by = (profile w : ℕ) → AtMost by profile w
 
 -- "n trailers together": each one's most, added up. Each one's stretch starts at a time of its own clock
-abbrev pub TogetherOnAir : Type 0
-TogetherOnAir =
+abbrev pub TogetherOnAir : Answers → Type 0
+TogetherOnAir by =
     (w : ℕ) → leastGap ≤ w → (ts : List (Run × ℕ))
-    → sum (λ (t : Run × ℕ). onAir (t .1) (t .1 + w) (journal (t .0) .admissions)) ts
+    → sum (λ (t : Run × ℕ). onAir (t .1) (t .1 + w) (bookOf by (t .0) .admissions)) ts
     ≤ sum (λ (t : Run × ℕ). most (t .0 .making .profile) w) ts
 
 -- the heads of the label's table: "in any 0.1 s", "0.5 s", "1 s", "1.5 s", "10 s", "minute", "hour"
@@ -88,16 +88,17 @@ MostByProfile =
     × MostIs 5 (3000 ∷ 13000 ∷ 25000 ∷ 37000 ∷ 244000 ∷ 1464000 ∷ 87805000 ∷ [])
 
 -- a run of a profile that reaches the most in its first w µs, admitted and on air
-pub record Reached (profile w : ℕ) : Type 0 where
+pub record Reached (by : Answers) (profile w : ℕ) : Type 0 where
   pub run : Run
   pub its-profile : run .making .profile ≡ profile
-  pub admitted : airIn 0 w (journal run .admissions) ≡ most profile w
-  pub on-air : onAir 0 w (journal run .admissions) ≡ most profile w
+  pub admitted : airIn 0 w (bookOf by run .admissions) ≡ most profile w
+  pub on-air : onAir 0 w (bookOf by run .admissions) ≡ most profile w
 
 -- in a second, a minute and an hour
-abbrev pub ReachedBy : (profile : ℕ) → Type 0
-ReachedBy profile = Reached profile 1000000 × Reached profile 60000000 × Reached profile 3600000000
+abbrev pub ReachedBy : Answers → (profile : ℕ) → Type 0
+ReachedBy by profile =
+    Reached by profile 1000000 × Reached by profile 60000000 × Reached by profile 3600000000
 
 -- so no figure could be less
-abbrev pub MostReached : Type 0
-MostReached = ReachedBy 1 × ReachedBy 2 × ReachedBy 3 × ReachedBy 4 × ReachedBy 5
+abbrev pub MostReached : Answers → Type 0
+MostReached by = ReachedBy by 1 × ReachedBy by 2 × ReachedBy by 3 × ReachedBy by 4 × ReachedBy by 5

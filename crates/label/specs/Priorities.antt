@@ -6,15 +6,12 @@ use mathlib.Core.List.{List, [], _∷_, map}
 use lib.ListN.{length}
 use Rattle.control.specs.Owed.{quiet}
 use Rattle.model.specs.declared.Offer.{Offer}
-use Rattle.model.specs.declared.Answer.{Answer}
 use Rattle.model.specs.declared.Answer.the-variants.{Taken}
 use Rattle.model.specs.Fours.{Four, column}
 use Rattle.model.specs.Calls.{Call, offer}
-use Rattle.model.specs.Gate.{call}
-use Rattle.model.specs.Journal.{Entry, Journal, fed, journalOf}
-use Rattle.model.specs.Claims.{events}
-use Rattle.model.specs.Delivery.{Among, offeredEntry}
-use Rattle.label.specs.Trailer.{Run, viewAtEnd, journal, onward, Served}
+use Rattle.model.specs.Journal.{Entry, Journal}
+use Rattle.model.specs.Delivery.{Among, offeredEntry, OfferedBy}
+use Rattle.label.specs.Trailer.{Run, Answers, bookOf, onward, bookAfter, timeOf, messagesIn, ServedFrom}
 
 -- how many are of a lower number than a priority: those go before it
 abbrev pub below : {A : Type 0} → (priority : ℕ) → Four A → ℕ
@@ -24,72 +21,73 @@ below (suc (suc zero)) q = length (q .c0) + length (q .c1)
 below (suc (suc (suc n))) q = length (q .c0) + length (q .c1) + length (q .c2)
 
 -- a packet that is TAKEN at the end of a run, and calls behind it
-pub record Wait : Type 0 where
+pub record Wait (by : Answers) : Type 0 where
   pub run : Run
   pub stamp : ℕ
   pub packet : Offer
-  pub taken : call (viewAtEnd run) (offer stamp packet) .answer ≡ Taken
+  pub taken : by .next run (offer stamp packet) ≡ Taken
   pub during : List Call
 
 -- the run with its offer
-abbrev pub withOffer : Wait → Run
+abbrev pub withOffer : {by : Answers} → Wait by → Run
 withOffer w = onward (w .run) (offer (w .stamp) (w .packet) ∷ [])
 
--- the calls behind it, with their answers
-abbrev pub callsSince : Wait → List (Call × Answer)
-callsSince w = events (call (viewAtEnd (w .run)) (offer (w .stamp) (w .packet)) .view) (w .during)
-
 -- the book right behind the offer, and at the end
-abbrev pub whenItCame : Wait → Journal
-whenItCame w = fed (journal (w .run)) (offer (w .stamp) (w .packet)) Taken
+abbrev pub whenItCame : {by : Answers} → Wait by → Journal
+whenItCame {by} w = bookOf by (withOffer w)
 
-abbrev pub sinceItCame : Wait → Journal
-sinceItCame w =
-    journalOf (whenItCame w) (callsSince w)
+abbrev pub sinceItCame : {by : Answers} → Wait by → Journal
+sinceItCame {by} w = bookAfter by (withOffer w) (w .during)
 
 -- its entry
-abbrev pub its : Wait → Entry
-its w = offeredEntry (journal (w .run)) (w .stamp) (w .packet)
+abbrev pub its : {by : Answers} → Wait by → Entry
+its {by} w = offeredEntry (bookOf by (w .run)) (w .stamp) (w .packet)
 
 -- it waits still
-abbrev pub WaitsStill : Wait → Type 0
+abbrev pub WaitsStill : {by : Answers} → Wait by → Type 0
 WaitsStill w = Among (its w) (column (w .packet .priority) (sinceItCame w .columns))
 
 -- "before it": of its own queue, and of lower numbers
-abbrev pub before : Wait → ℕ
+abbrev pub before : {by : Answers} → Wait by → ℕ
 before w = its w .above + below (w .packet .priority) (whenItCame w .columns)
 
 -- "of lower number, TAKEN while it waits"
-abbrev pub meanwhile : Wait → ℕ
+abbrev pub meanwhile : {by : Answers} → Wait by → ℕ
 meanwhile w =
     below (w .packet .priority) (sinceItCame w .offers) - below (w .packet .priority) (whenItCame w .offers)
 
 -- the packets that went since it came
-abbrev pub went : Wait → ℕ
-went w = length (sinceItCame w .admissions) - length (whenItCame w .admissions)
+abbrev pub went : {by : Answers} → Wait by → ℕ
+went {by} w = messagesIn by (withOffer w) (w .during)
 
 -- "while it waits, no more packets go than were before it and of lower number came meanwhile"
-abbrev pub InItsTurn : Type 0
-InItsTurn = (w : Wait) → WaitsStill w → went w ≤ before w + meanwhile w
+abbrev pub InItsTurn : Answers → Type 0
+InItsTurn by = (w : Wait by) → WaitsStill w → went w ≤ before w + meanwhile w
 
 -- "polled at least every p, and something waiting at each poll"
-abbrev pub ServedSince : (p : ℕ) → Wait → Type 0
-ServedSince p w =
-    Served p (whenItCame w .time) (whenItCame w) (callsSince w)
+abbrev pub ServedSince : (p : ℕ) → {by : Answers} → Wait by → Type 0
+ServedSince p {by} w = ServedFrom by p (withOffer w) (w .during)
 
 -- the time for which it has waited
-abbrev pub waited : Wait → ℕ
-waited w = sinceItCame w .time - whenItCame w .time
+abbrev pub waited : {by : Answers} → Wait by → ℕ
+waited {by} w = timeOf by (withOffer w) (w .during)
 
 -- "(before it + meanwhile + 1) x (floor + p)"
-abbrev pub WaitsAtMost : Type 0
-WaitsAtMost =
-    (p : ℕ) (w : Wait) → ServedSince p w → WaitsStill w
+abbrev pub WaitsAtMost : Answers → Type 0
+WaitsAtMost by =
+    (p : ℕ) (w : Wait by) → ServedSince p w → WaitsStill w
     → waited w ≤ suc (before w + meanwhile w) * (quiet (w .run .making .profile) + p)
+
+-- "(k + 1) x (floor + p)" for a warning, of priority 0, with k before it (model/specs/Delivery)
+abbrev pub WarningsGo : Answers → Type 0
+WarningsGo by =
+    (p : ℕ) (w : Wait by) → w .packet .priority ≡ 0
+    → OfferedBy (quiet (w .run .making .profile)) (w .run .making) p (its w) (whenItCame w)
+    (by .since (withOffer w) (w .during))
 
 -- "of lower numbers at most one comes in any so many µs": one when it came, and one more for each such time
 -- that has passed
-abbrev pub OneEvery : (every : ℕ) → Wait → Type 0
+abbrev pub OneEvery : (every : ℕ) → {by : Answers} → Wait by → Type 0
 OneEvery every w = meanwhile w * every ≤ waited w + every
 
 -- "(before it + 2) x (floor + p) x every / (every - (floor + p))": the others take floor + p of every such
@@ -99,9 +97,9 @@ amongOthers profile p every before =
     (before + 2) * (quiet profile + p) * every / (every - (quiet profile + p))
 
 -- then, where they come less often than packets go, it waits for at most that
-abbrev pub WaitsAmongOthers : Type 0
-WaitsAmongOthers =
-    (p every : ℕ) (w : Wait) → ServedSince p w → WaitsStill w → OneEvery every w
+abbrev pub WaitsAmongOthers : Answers → Type 0
+WaitsAmongOthers by =
+    (p every : ℕ) (w : Wait by) → ServedSince p w → WaitsStill w → OneEvery every w
     → quiet (w .run .making .profile) + p < every
     → waited w ≤ amongOthers (w .run .making .profile) p every (before w)
 
