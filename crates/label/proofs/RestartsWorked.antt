@@ -98,7 +98,7 @@ gentle = record { making = makingOf 1 0 noLevels 0; calls = sends 0 1000; ready 
 abbrev gentle-twice : List Started
 gentle-twice = record { run = gentle; made = 1000000 } ∷ record { run = gentle; made = 0 } ∷ []
 
-alike : Alike 1
+alike : Alike byModel 1
 unfolding of-runs sends gentle sentInAll
 alike = record { runs = gentle-twice; restarts = (((omega arith, tt), tt), ((tt, tt), tt)); same = (refl, (refl, tt)) }
 
@@ -107,8 +107,8 @@ unfolding of-runs gentle claimsCeiling
 both-claim = (refl, (refl, tt))
 
 ceiling-kept : (from w : ℕ)
-    → (100 * airTime from w (sentInAll gentle-twice) ≤ 3 * w + 400000)
-    × (100 * onAir from (from + w) (sentInAll gentle-twice) ≤ 3 * w + 400000)
+    → (100 * airTime from w (sentInAll byModel gentle-twice) ≤ 3 * w + 400000)
+    × (100 * onAir from (from + w) (sentInAll byModel gentle-twice) ≤ 3 * w + 400000)
 unfolding alike
 ceiling-kept from w = (
   restarts-keep gentle-twice (alike .restarts) .ceiling both-claim from w,
@@ -117,7 +117,7 @@ ceiling-kept from w = (
 
 -- and in a second a profile's most
 most-kept : (from : ℕ)
-    → (airIn from (from + 1000000) (sentInAll gentle-twice) ≤ most 1 1000000)
-    × (onAir from (from + 1000000) (sentInAll gentle-twice) ≤ most 1 1000000)
+    → (airIn from (from + 1000000) (sentInAll byModel gentle-twice) ≤ most 1 1000000)
+    × (onAir from (from + 1000000) (sentInAll byModel gentle-twice) ≤ most 1 1000000)
 unfolding alike
 most-kept from = (most-holds 1 1000000 .admitted-in-all alike from, most-holds 1 1000000 .on-air-in-all (omega arith) alike from)
