@@ -12,9 +12,10 @@ use Rattle.model.specs.Calls.{Call}
 use Rattle.model.specs.Journal.{opened, journalOf}
 use Rattle.model.specs.Claims.{Claims}
 use Rattle.gate.specs.declared.State.{State}
-use Rattle.gate.specs.Layout.{viewOf, soundState, callOn, makeState}
+use Rattle.gate.specs.Layout.{viewOf, soundState, makeState}
 use Rattle.gate.specs.Runs.{stateAfter, eventsOn, PollsRight, StateRun}
 use Rattle.gate.proofs.Runs.{make-runs}
+use Rattle.gate.proofs.Parts.{after-append, events-append}
 use Rattle.records.specs.declared.Record.{Record}
 use Rattle.records.specs.Records.{recordBytes, recordAt}
 use Rattle.calllog.specs.Bursts.{isOffer, offerOf, offeredBy, answerByte, offeredTo, answersTo, isAccepted, recordsIn}
@@ -22,18 +23,6 @@ use Rattle.calllog.specs.Bursts.{burstState, burstAnswers, offersTo, ans
 use Rattle.calllog.specs.Bursts.{Move, one, burst, moved, callsOf, heardOf, movedAll, allCalls, allHeard}
 use Rattle.calllog.specs.Bursts.{journalHeard, RunsWithBursts}
 use Rattle.calllog.proofs.Bursts.{offer-told, answers-length, from-start, byteOf, answer-at}
-
--- calls behind other calls
-after-append : (s : State) (cs ds : List Call) → stateAfter s (cs ++ ds) ≡ stateAfter (stateAfter s cs) ds
-unfolding stateAfter
-after-append s [] ds = refl
-after-append s (c ∷ cs) ds = after-append (callOn s c .state) cs ds
-
-events-append : (s : State) (cs ds : List Call) → eventsOn s (cs ++ ds) ≡ eventsOn s cs ++ eventsOn (stateAfter s cs) ds
-unfolding stateAfter eventsOn
-events-append s [] ds = refl
-events-append s (c ∷ cs) ds =
-    ap (λ (l : List (Call × Answer)). (c, callOn s c .answer) ∷ l) (events-append (callOn s c .state) cs ds)
 
 -- one record is its offer, or no call
 record-state : (s : State) (rec : Record) → offeredBy s rec .state ≡ stateAfter s (cond (isOffer rec) (offerOf rec ∷ []) [])

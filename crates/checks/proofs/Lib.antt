@@ -7,6 +7,7 @@ pub mod Groups
 pub mod Judged
 pub mod Sampling
 pub mod Engine
+pub mod Refusing
 pub mod Entry
 pub mod Offering
 pub mod Polling
