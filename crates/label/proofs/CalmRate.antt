@@ -7,7 +7,6 @@ use mathlib.Core.Bool.{true, false, cond}
 use mathlib.Core.List.{List, [], _∷_, _++_, append-assoc}
 use native.Mathlib.Nat.{zero-mul, suc-mul, mul-comm, mul-le-mul-right, div-mul-le-self, le-div-iff-mul-le}
 use native.Mathlib.Omega.{arith}
-use lib.ListN.{length}
 use Rattle.rules.specs.Profiles.{mostOntime, limitsOf}
 use Rattle.rules.specs.Wait.{ceilDiv}
 use Rattle.rules.proofs.Cases.{split, on-test}
@@ -23,10 +22,10 @@ use Rattle.label.specs.Priorities.{withOffer}
 use Rattle.label.specs.Calm.{alwaysRoom, Calm, settled, profileOf, floorOf}
 use Rattle.label.specs.CalmRate.{inASecond, calmEach, calmOnce, CalmRate, timesIn, messagesBy}
 use Rattle.label.specs.CalmRate.{CalmMessages, asWait, CalmWaits, CalmDelivery}
-use Rattle.label.proofs.Steps.{Timely}
+use Rattle.label.proofs.Steps.{OpensBy, due, Indexed}
 use Rattle.label.proofs.Room.{after-due, aged-due}
 use Rattle.label.proofs.Pace.{fit}
-use Rattle.label.proofs.Rate.{behind, pace-by, rate-of-obeying, polled-obeys, quotient-most}
+use Rattle.label.proofs.Rate.{behind, OpensInTime, pace-by, rate-of-obeying, polled-obeys, quotient-most}
 use Rattle.label.proofs.Priorities.{waits-by}
 use Rattle.label.proofs.Following.{part}
 use Rattle.label.proofs.Calm.{opens-calmly, opens-later, calm-floors}
@@ -75,16 +74,18 @@ module _ {load samples ontime : ℕ} (late : ℕ) (c : Calm byModel load samples
   short = on-test (λ u. late ≤ cond u (floorOf c + late) share) (alwaysRoom profile ontime) (λ e. omega arith) (λ e. omega arith)
 
   -- behind a first part of the calls, from wherever the messages are counted
-  module _ (ds es : List Call) (e : c .during ≡ ds ++ es) (start had : ℕ) where
+  module _ (ds es : List Call) (e : c .during ≡ ds ++ es) (start : ℕ) where
     abbrev there : Run
     there = onward (settled c) ds
 
     abbrev InTimeBy : (once each : ℕ) → Type 0
-    InTimeBy once each = Timely late start once each had (viewAtEnd there) (journal there)
+    InTimeBy once each =
+        (n : ℕ) → Indexed start once each n (journal there .admissions)
+        → (from : ℕ) × OpensBy (viewAtEnd there) (journal there) from × (from + late ≤ due start once each (suc n))
 
     by-waits : alwaysRoom profile ontime ≡ true → InTimeBy 0 (floorOf c + late)
     unfolding part
-    by-waits room n counted i = (
+    by-waits room n i = (
       _,
       opens-calmly (part c ds es e) room,
       after-due late start 0 (floorOf c + late) (floorOf c) n (journal there .admissions) (omega arith) i,
@@ -92,7 +93,7 @@ module _ {load samples ontime : ℕ} (late : ℕ) (c : Calm byModel load samples
 
     by-second : (k : ℕ) → inASecond ontime ≡ suc k → InTimeBy second share
     unfolding part
-    by-second k some n counted i = (
+    by-second k some n i = (
       _,
       opens-later (part c ds es e) k (fits k some),
       omega (
@@ -113,7 +114,7 @@ module _ {load samples ontime : ℕ} (late : ℕ) (c : Calm byModel load samples
 pub calm-rate : CalmRate byModel
 calm-rate load samples ontime late c =
     pace-by late (once late c) (each late c) (short late c) (settled c) (c .during)
-    (λ ds es e. in-time late c ds es e _ _)
+    (λ ds es e. in-time late c ds es e _)
 
 -- so many times so long are over in a time, where that is at most n + 1 times
 times-most : (time n each : ℕ) → time ≤ suc n * each → timesIn time each ≤ n
@@ -145,13 +146,12 @@ calm-waits load samples ontime p w s =
     let r = withOffer (asWait w) in
     let asked = offer (w .stamp) (w .packet) in
     let start = journal r .time in
-    let had = length (journal r .admissions) in
     waits-by (once p c) (each p c) (asWait w)
     (pace-by p (once p c) (each p c) (short p c) r (w .behind)
     (λ ds es e.
-    subst (λ (r : Run). Timely p start (once p c) (each p c) had (viewAtEnd r) (journal r))
+    subst (λ (r : Run). OpensInTime p (once p c) (each p c) (short p c) start (viewAtEnd r) (journal r))
     (onward-twice (settled c) (asked ∷ []) ds)
-    (in-time p c (asked ∷ ds) es (w .calls ∙ ap (λ (ks : List Call). asked ∷ ks) e) start had))
+    (in-time p c (asked ∷ ds) es (w .calls ∙ ap (λ (ks : List Call). asked ∷ ks) e) start))
     (polled-obeys p r (w .behind) s))
 
 -- the calm floor is kept from the offer on

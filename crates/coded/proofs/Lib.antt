@@ -1,0 +1,2 @@
+-- The label's figures of the code, from those of the model.
+pub mod Coded

@@ -1,0 +1,2 @@
+-- The figures of docs/LABEL.md, of the code.
+pub mod Coded
