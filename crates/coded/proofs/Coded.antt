@@ -10,7 +10,7 @@ use Rattle.model.specs.Claims.{viewAfter, events}
 use Rattle.model.proofs.Demand3.{demand3}
 use Rattle.gate.specs.Layout.{viewOf, soundState, makeState}
 use Rattle.gate.specs.Runs.{stateAfter, StateRun}
-use Rattle.gate.proofs.Views.{sound-writable, view-state}
+use Rattle.gate.proofs.Views.{view-state}
 use Rattle.gate.proofs.Runs.{run-reads, call-reads, make-runs}
 use Rattle.label.specs.Trailer.{Run, viewAtEnd, byModel}
 use Rattle.label.specs.Label.{Label}
@@ -36,7 +36,7 @@ module _ (r : Run) where
   -- make's state reads as the model's
   back : viewOf (makeState (r .making) .state) ≡ first
   unfolding makeState viewAfter
-  back = view-state first (sound-writable first (demand3 (r .making) [] (r .ready) .sound-throughout))
+  back = view-state first (demand3 (r .making) [] (r .ready) .sound-throughout)
 
   reads : viewOf (stateAtEnd r) ≡ viewAtEnd r
   reads = run-reads (makeState (r .making) .state) (r .calls) begins .view ∙ ap (λ (v : View). viewAfter v (r .calls)) back
