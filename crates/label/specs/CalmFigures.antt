@@ -10,8 +10,8 @@ use Rattle.label.specs.Trailer.{minute}
 use Rattle.label.specs.Calm.{calmFloor}
 use Rattle.label.specs.CalmRate.{calmMessages}
 
--- the heads of the table, "no sample above": "20 %", "below 30 %", "below 40 %", "40 %", "50 %", "60 %",
--- "65 %", "any"
+-- the heads of the table, "no sample": "above 20 %", "of 30 % or more", "of 40 % or more", "above 40 %",
+-- "above 50 %", "above 60 %", "above 65 %"; "any load"
 abbrev pub tableLoads : List ℕ
 tableLoads = 200000 ∷ 299999 ∷ 399999 ∷ 400000 ∷ 500000 ∷ 600000 ∷ 650000 ∷ 1000000 ∷ []
 
