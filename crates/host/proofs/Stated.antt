@@ -55,39 +55,22 @@ calling s kind a b c d stamp =
       after = rowsFor (o .state);
     }
 
--- a make of profile 1 at stamp 7; an offer; a call of no kind; what counts as a single offer; a poll, which sends the first
+-- a make of profile 1 at stamp 7, an offer, and a call of no kind
 abbrev made : Making
 made = makingOf 1 0 noLevels 7
 
 abbrev fresh : State
 fresh = makeState made .state
 
-abbrev offered : Called
-offered = calling fresh 2 1 0 400 60000000 7
-
 abbrev one : State
 one = asked fresh 2 1 0 400 60000000 7 .state
 
-abbrev another : Call
-another = offer 7 (offerOf 2 0 400 60000000)
-
-abbrev two : State
-two = stateAfter one (another ∷ [])
-
-abbrev sent : State
-sent = asked two 3 0 0 0 0 7 .state
-
 abbrev moves : List Move
-moves =
-    single offered
-    ∷ single (calling one 4 0 0 0 0 7)
-    ∷ several (record { calls = another ∷ []; heard = eventsOn one (another ∷ []); after = rowsFor two })
-    ∷ single (calling two 3 0 0 0 0 7)
-    ∷ []
+moves = single (calling fresh 2 1 0 400 60000000 7) ∷ []
 
 all-done : AllDone (rowsFor fresh) moves
 unfolding of-states
-all-done = (refl, (refl, (record { state = refl; answers = refl }, (refl, tt))))
+all-done = (refl, tt)
 
 run : HostRun made (rowsFor fresh) moves
 unfolding of-states
@@ -96,22 +79,39 @@ run = host-runs made (rowsFor fresh) (plainReply 0 0) moves refl refl all-done
 thirty-ms : (from : ℕ) → airIn from (from + 1000000) (bookOf made moves .admissions) ≤ 30000
 thirty-ms = run .claims .in-any-second
 
--- the floor: a poll 1,001,000 µs after the admission is not REFUSED and finds the packet, so it is SENT, and carries the one on
--- top
+-- the floor: a poll that is not REFUSED and finds the packet, with no admission before it, is SENT; it carries the one on top
 abbrev next : Called
-next = calling sent 3 0 0 0 0 1001007
+next = calling one 3 0 0 0 0 7
 
 goes : next .reply .kind ≡ 2
 unfolding of-states
-goes = run .polls .floor next refl refl (λ five. omega arith) (λ none. clash (sym (ap length none))) (omega arith, tt)
+goes = run .polls .floor next refl refl (λ five. omega arith) (λ none. clash (sym (ap length none))) tt
 
-on-top : (e : Entry) × (top (atPoll (bookOf made moves) 1001007 .columns) ≡ e ∷ []) × (e .packet ≡ next .reply .packet)
+on-top : (e : Entry) × (top (atPoll (bookOf made moves) 7 .columns) ≡ e ∷ []) × (e .packet ≡ next .reply .packet)
 unfolding of-states
 on-top = run .polls .sent next refl refl refl
 
+-- what counts as a single offer
+abbrev another : Call
+another = offer 7 (offerOf 2 0 400 60000000)
+
+abbrev counted : List Move
+counted =
+    several
+    (record {
+      calls = another ∷ [];
+      heard = eventsOn fresh (another ∷ []);
+      after = rowsFor (stateAfter fresh (another ∷ []));
+    })
+    ∷ []
+
+counted-done : AllDone (rowsFor fresh) counted
+unfolding of-states
+counted-done = (record { state = refl; answers = refl }, tt)
+
 -- a poll whose clock goes back writes nothing
-nothing-written : calling sent 3 0 0 0 0 6 .after ≡ rowsFor sent
+nothing-written : calling fresh 3 0 0 0 0 6 .after ≡ rowsFor fresh
 unfolding of-states
 nothing-written =
-    refused-writes-nothing (rowsFor sent) (calling sent 3 0 0 0 0 6 .after) 3 0 0 0 0 6 (plainReply 5 2)
+    refused-writes-nothing (rowsFor fresh) (calling fresh 3 0 0 0 0 6 .after) 3 0 0 0 0 6 (plainReply 5 2)
     (record { wide = refl; narrow = refl }) (record { wide = refl; narrow = refl }) refl refl

@@ -14,7 +14,8 @@ use lib.ListN.{replicate}
 use Rattle.rules.specs.declared.Sample.the-variants.{Busy, Bad}
 use Rattle.rules.specs.Tests.{allOf}
 use Rattle.rules.specs.Profiles.{profile3, profile4, fullLoad, topLevel, within, isProfile, profiles}
-use Rattle.rules.specs.Profiles.{isReactive, isUnlisted, byProfile, reactiveOf, limitsOf, mostOntime, ontimeAllowed, dutyAllowed}
+use Rattle.rules.specs.Profiles.{isReactive, isUnlisted, byProfile, reactiveOf, limitsOf, mostOntime}
+use Rattle.rules.specs.Profiles.{ontimeAllowed, dutyAllowed}
 use Rattle.rules.specs.Profiles.{lifetimeAllowed, lastPriority, room, mostOffers}
 use Rattle.rules.specs.Clock.{stamps, stepOf, goesBack, endOfTime, passesEnd}
 use Rattle.rules.specs.Refusals.{check, firstOf, FirstHolds, NoneHolds}
