@@ -1,7 +1,8 @@
 -- A burst of offers in one call, and runs with bursts in them (document 02, W-204; document 01, "A run and
 -- its book": "A call on the state that a later request adds counts as the single calls that the request says
 -- it equals.").
-use Rattle.std.specs.Prelude.{ℕ, zero, suc, ◌*◌, ◌/◌, ◌%◌, ◌<◌, ◌≡◌, Bool, true, false, cond, not, List, [], ◌∷◌, ◌++◌, eqb, ltb, length, get_or}
+use Rattle.std.specs.Prelude.{ℕ, zero, suc, ◌*◌, ◌/◌, ◌%◌, ◌<◌, ◌≡◌, Bool, true, false, cond, not, List, []}
+use Rattle.std.specs.Prelude.{◌∷◌, ◌++◌, eqb, ltb, length, get_or}
 use Rattle.rules.specs.Refusals.{Check, check, first_of}
 use Rattle.model.specs.declared.Answer.{Answer}
 use Rattle.model.specs.declared.Answer.TheVariants.{Ready, Taken, Sent, Idle, Closed, Refused}
@@ -129,7 +130,8 @@ moved s (burst records answers) = burst_state s records answers
 -- the single calls that a move counts as; a refused burst is none
 abbrev pub calls_of : Move → List Call
 calls_of (one c) = c ∷ []
-calls_of (burst records answers) = cond (is_accepted records answers) (offers_to records (records_in records)) []
+calls_of (burst records answers) = cond (is_accepted records answers) (offers_to records (records_in records))
+    []
 
 -- those calls, each with the answer that the host has heard
 abbrev pub heard_of : State → Move → List (Call × Answer)
@@ -164,7 +166,7 @@ pub record BurstRun (m : Making) (s : State) (moves : List Move) : Type 0 where
   pub final : moved_all s moves ≡ state_after s (all_calls moves)
   pub heard : all_heard s moves ≡ events_on s (all_calls moves)
   -- so no move of it meets NO-STATE, and demand 3 holds of it
-  pub sound_state_lem : sound_state (moved_all s moves) ≡ true
+  pub stays_sound : sound_state (moved_all s moves) ≡ true
   pub claims : Claims m.profile (view_of (moved_all s moves)) (journal_heard m s moves)
   pub polls : PollsRight m.profile (moved_all s moves) (journal_heard m s moves)
 

@@ -8,7 +8,8 @@ use Rattle.gate.specs.declared.State.{State}
 use Rattle.gate.specs.Layout.{make_state}
 use Rattle.gate.specs.Runs.{state_after, events_on}
 use Rattle.records.specs.Records.{record_at, Asked, makes}
-use Rattle.records.specs.Writing.{write_number, log_after, Narrow, unlisted, log_of, AllWritten, Alike, Shared}
+use Rattle.records.specs.Writing.{write_number, log_after, Narrow, unlisted, log_of, AllWritten, Alike}
+use Rattle.records.specs.Writing.{Shared}
 use Rattle.lines.specs.Lines.{ascii, line, line_of}
 use Rattle.calllog.specs.Steps.{answered, step_on}
 use Rattle.calllog.specs.Text.{output_from}

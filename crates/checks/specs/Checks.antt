@@ -33,6 +33,6 @@ clock_number clock stamp =
 
 -- none of these three holds
 pub record Entered (is_sound : Bool) (clock : Clock) (stamp : ℕ) : Type 0 where
-  pub is_sound_lem : is_sound ≡ true
+  pub judged_sound : is_sound ≡ true
   pub forward : goes_back (step_of stamp clock.stamp) ≡ false
   pub not_past : passes_end (stepped clock stamp).time ≡ false

@@ -1,5 +1,7 @@
 // What both engines ask of plain numbers: which packets, counts and admissions are sound, how the clock
 // moves, what refuses an offer, how long until a packet may go.
+#![tactic(auto)]
+
 ghost use Rattle.std.specs.Prelude.{◌≡◌, ◌≤◌, ◌+◌, ◌*◌, max};
 ghost use Rattle.rules.specs.Tests.{all_of};
 ghost use Rattle.rules.specs.Clock.{end_of_time};
@@ -13,7 +15,7 @@ ghost use Rattle.checks.specs.Checks.{left_at, is_zero, clock_number};
 use model::{Clock, Counts, Last, Offer, Packet};
 
 // A call without its stamp. A sample, by words too, comes as its busy count and its probe count.
-#[derive(Drop)]
+#[derive(Clone, Copy)]
 pub enum Request {
     Count(u32, u32),
     Offered(Offer),

@@ -2,7 +2,8 @@
 -- calls", "Samples"; document 02, W-209, W-213). A state has the groups of a control side by side.
 use Rattle.std.specs.Prelude.{ℕ, ◌≤◌, ◌≡◌, Bool, true, cond, ◌&&◌, List, [], ◌∷◌, leb, eqb}
 use Rattle.rules.specs.Tests.{all_of}
-use Rattle.rules.specs.Profiles.{profile3, full_load, top_level, is_profile, is_reactive, reactive_of, duty_allowed}
+use Rattle.rules.specs.Profiles.{profile3, full_load, top_level, is_profile, is_reactive, reactive_of}
+use Rattle.rules.specs.Profiles.{duty_allowed}
 use Rattle.rules.specs.Levels.{wanted_by, towards}
 use Rattle.rules.specs.Duty.{smoothed_of, duty_of}
 use Rattle.machine.specs.declared.Levels.{Levels}

@@ -1,5 +1,7 @@
 // What samples steer: how it starts, whether it is sound, what a sample does to it, how long it keeps the
 // gate closed.
+#![tactic(auto)]
+
 ghost use Rattle.std.specs.Prelude.{◌≡◌, ◌&&◌, eqb, ◌≤◌};
 ghost use Rattle.rules.specs.Profiles.{profile3, full_load};
 ghost use Rattle.machine.specs.Levels.{bad_list};
@@ -14,7 +16,7 @@ use machine::{Levels, Loads};
 // What samples change. `pairing` is 1 while a sample is kept, else 0; `latest` is the latest load in profile
 // 4, else 0.
 #[repr(C)]
-#[derive(Drop)]
+#[derive(Clone, Copy)]
 pub struct Tuning {
     pub level: u32,
     pub duty: u32,
@@ -187,7 +189,7 @@ pub fn tuning_after(profile: u32, t: Tuning, moved: u32, load: u32) -> Tuning
     next
 }
 
-// The wait of a profile, by the on_time of the last admission; `listed` is that of profile 5's list.
+// The wait of a profile, by the on-time of the last admission; `listed` is that of profile 5's list.
 pub fn wait(profile: u32, t: Tuning, listed: u32, ontime: u32) -> u32
     requires steerable { Steerable profile t }
     requires ontime_le_ontime { ontime ≤ profile3.limits.ontime }

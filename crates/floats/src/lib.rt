@@ -1,5 +1,7 @@
 // The bench's floating update (document 02, W-211): one update in f64, a fixed sequence of operations, each
 // rounded once. It is for the simulation group, and no part of the gate.
+#![tactic(auto)]
+
 ghost use Rattle.std.specs.Prelude.{◌≡◌, true};
 ghost use Rattle.floats.specs.Doubles.{smaller, larger, held_within, compares_as};
 ghost use Rattle.floats.specs.Update.{smoothed_of, offset_of, duty_of, is_load, is_duty};
@@ -15,7 +17,7 @@ pub const MOST_DUTY: f64 = 0.03;
 
 // A smoothed load and a duty, or a refusal number above 0.
 #[repr(C)]
-#[derive(Drop)]
+#[derive(Clone, Copy)]
 pub struct FloatAnswer {
     pub refusal: u32,
     pub smoothed: f64,

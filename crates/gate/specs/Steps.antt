@@ -1,6 +1,7 @@
 -- What each step of a call is given and what it leaves: what refuses a call, the clock moved, the expired
 -- gone, what a sample steers, a packet that joins and one that is admitted (document 01, "State and calls").
-use Rattle.std.specs.Prelude.{ℕ, ◌+◌, ◌-◌, ◌≤◌, ◌<◌, ◌≡◌, Bool, true, cond, ◌&&◌, List, [], ◌∷◌, ◌++◌, leb, eqb, length, drop}
+use Rattle.std.specs.Prelude.{ℕ, ◌+◌, ◌-◌, ◌≤◌, ◌<◌, ◌≡◌, Bool, true, cond, ◌&&◌, List, [], ◌∷◌, ◌++◌, leb}
+use Rattle.std.specs.Prelude.{eqb, length, drop}
 use Rattle.rules.specs.Refusals.{Check, check}
 use Rattle.rules.specs.Samples.{bad_count}
 use Rattle.rules.specs.Profiles.{profile3, most_offers, room}
@@ -66,7 +67,7 @@ pub record Settled (s : State) : Type 0 where
   pub queues : Sized 4 (rows_in s)
   pub air : ledger.Forty s.air
   pub tight : LaidOut s
-  pub is_sound_lem : sound (view_of s) ≡ true
+  pub judged_sound : sound (view_of s) ≡ true
 
 -- a head with another clock, last admission, counts and number of admissions
 abbrev pub head_with : Head → Clock → Last → Counts → (admissions : ℕ) → Head
@@ -189,7 +190,7 @@ pub record Noting (base : ℕ) (l : Ledger) : Type 0 where
   pub forty : ledger.Forty l.slots
   pub few : l.len ≤ places
   pub air : air_of (ledger.items base l) ≤ most_air
-  pub in_time_lem : ledger.Timely (ledger.items base l)
+  pub in_good_time : ledger.Timely (ledger.items base l)
 
 -- a last admission that is past, with an on-time that the wait's arithmetic takes
 pub record Lasting (h : Head) : Type 0 where

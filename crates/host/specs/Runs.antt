@@ -111,7 +111,7 @@ pub record PollsRight (profile : ℕ) (l : Lent) (j : Journal) : Type 0 where
 -- at the end of a run, and so at any point of one
 pub record HostRun (m : Making) (l : Lent) (xs : List Move) : Type 0 where
   -- no call of a run meets NO-STATE
-  pub sound_state_lem : sound_state (state_on (rows_after l xs)) ≡ true
+  pub stays_sound : sound_state (state_on (rows_after l xs)) ≡ true
   -- demand 3 of the book that the host could keep
   pub claims : Claims m.profile (view_of (state_on (rows_after l xs))) (book_of m xs)
   pub polls : PollsRight m.profile (rows_after l xs) (book_of m xs)

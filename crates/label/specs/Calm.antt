@@ -1,7 +1,8 @@
 -- The floor of a calm channel: how long the gate is closed at most where no sample is above a load, and how
 -- many samples it takes to forget a jam (docs/LABEL.md, "On a calm channel"). All of it is read off calls,
 -- answers and the run's book, and nothing off a state.
-use Rattle.std.specs.Prelude.{ℕ, zero, suc, ◌+◌, ◌-◌, ◌*◌, ◌/◌, ◌≤◌, max, ◌≡◌, Bool, true, false, cond, List, [], ◌∷◌, ◌++◌, leb, length}
+use Rattle.std.specs.Prelude.{ℕ, zero, suc, ◌+◌, ◌-◌, ◌*◌, ◌/◌, ◌≤◌, max, ◌≡◌, Bool, true, false, cond, List}
+use Rattle.std.specs.Prelude.{[], ◌∷◌, ◌++◌, leb, length}
 use Rattle.rules.specs.Profiles.{profile1, profile2, profile3, profile4, full_load, by_profile, limits_of}
 use Rattle.rules.specs.Profiles.{most_ontime}
 use Rattle.rules.specs.Samples.{busy_of, load_of}
@@ -152,7 +153,7 @@ always_room profile ontime = leb (ontime * ceil_div second (limits_of profile).l
 -- at the end of a calm run, and so at any point of one: the calm floor where the second has room, and by
 -- itself where it always has
 pub record CalmFloor (by : Answers) (load samples ontime : ℕ) (c : Calm by load samples ontime) : Type 0 where
-  pub with_room_lem : (stamp : ℕ) → HasRoom (book_of by (ended c)) stamp
+  pub room_found : (stamp : ℕ) → HasRoom (book_of by (ended c)) stamp
       → SendsAfter (floor_of c) stamp (by.next (ended c) (poll stamp)) (book_of by (ended c))
   pub by_itself : always_room (profile_of c) ontime ≡ true
       → (stamp : ℕ)

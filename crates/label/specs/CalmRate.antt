@@ -1,6 +1,7 @@
 -- The messages of a calm channel, how long a packet waits on it, and how soon it is so after a jam
 -- (docs/LABEL.md, "On a calm channel").
-use Rattle.std.specs.Prelude.{ℕ, suc, ◌+◌, ◌-◌, ◌*◌, ◌/◌, ◌≤◌, ◌<◌, max, ◌≡◌, true, cond, List, [], ◌∷◌, length}
+use Rattle.std.specs.Prelude.{ℕ, suc, ◌+◌, ◌-◌, ◌*◌, ◌/◌, ◌≤◌, ◌<◌, max, ◌≡◌, true, cond, List, [], ◌∷◌}
+use Rattle.std.specs.Prelude.{length}
 use Rattle.rules.specs.Wait.{ceil_div}
 use Rattle.control.specs.Owed.{second, quiet}
 use Rattle.model.specs.declared.Offer.{Offer}

@@ -25,7 +25,7 @@ pub record Label (by : Answers) : Type 0 where
   pub waiting_restarts : WaitingRestarts by
   -- M, S, and P, F and D in their numbers
   pub rate : Rate by
-  pub per_minute_lem : PerMinute by
+  pub each_minute : PerMinute by
   pub polled_obeys : PolledObeys by
   pub rate_of_obeying : RateOfObeying by
   pub enough : Enough by
@@ -39,7 +39,7 @@ pub record Label (by : Answers) : Type 0 where
   pub never_longer : NeverLonger by
   pub calm_floors : CalmFloors by
   pub calm_rate : CalmRate by
-  pub calm_messages_lem : CalmMessages by
+  pub messages_when_calm : CalmMessages by
   pub calm_waits : CalmWaits by
   pub calm_delivery : CalmDelivery by
   pub recovers : Recovers by

@@ -49,7 +49,7 @@ pub record Alike (by : Answers) (profile : ℕ) : Type 0 where
 pub record AtMost (by : Answers) (profile w : ℕ) : Type 0 where
   pub admitted : (r : Run) → r.making.profile ≡ profile
       → (from : ℕ) → air_in from (from + w) (book_of by r).admissions ≤ most profile w
-  pub on_air_lem : least_gap ≤ w → (r : Run) → r.making.profile ≡ profile
+  pub heard_on_air : least_gap ≤ w → (r : Run) → r.making.profile ≡ profile
       → (from : ℕ) → on_air from (from + w) (book_of by r).admissions ≤ most profile w
   -- and across restarts
   pub admitted_in_all : (rs : Alike by profile) (from : ℕ)
@@ -89,7 +89,7 @@ pub record Reached (by : Answers) (profile w : ℕ) : Type 0 where
   pub run : Run
   pub its_profile : run.making.profile ≡ profile
   pub admitted : air_in 0 w (book_of by run).admissions ≡ most profile w
-  pub on_air_lem : on_air 0 w (book_of by run).admissions ≡ most profile w
+  pub heard_on_air : on_air 0 w (book_of by run).admissions ≡ most profile w
 
 -- in a second, a minute and an hour
 abbrev pub ReachedBy : Answers → (profile : ℕ) → Type 0

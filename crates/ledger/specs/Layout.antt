@@ -1,6 +1,7 @@
 -- A ledger of forty words means the list of its admissions (document 02, W-207); all that concerns words and
 -- places stands here. A word holds how long before the last admission its own came, and its on-time.
-use Rattle.std.specs.Prelude.{ℕ, ◌+◌, ◌-◌, ◌*◌, ◌/◌, ◌%◌, ◌≤◌, ◌<◌, ◌≡◌, Bool, true, cond, ◌&&◌, List, [], ◌∷◌, ◌++◌, map, leb, eqb, length, take, drop, set}
+use Rattle.std.specs.Prelude.{ℕ, ◌+◌, ◌-◌, ◌*◌, ◌/◌, ◌%◌, ◌≤◌, ◌<◌, ◌≡◌, Bool, true, cond, ◌&&◌, List, []}
+use Rattle.std.specs.Prelude.{◌∷◌, ◌++◌, map, leb, eqb, length, take, drop, set}
 use Rattle.rules.specs.Tests.{all_of}
 use Rattle.rules.specs.Clock.{end_of_time}
 use Rattle.rules.specs.Profiles.{within}

@@ -1,6 +1,8 @@
 // The ledger, the admissions of the last second in forty words: sound, aged, noted, and how long until the
 // air allows a packet. A word is how long before the last admission its own came, times 4,096, plus its
-// on_time; so a ledger is one array of numbers, lent where it lies and never copied.
+// on-time; so a ledger is one array of numbers, lent where it lies and never copied.
+#![tactic(auto)]
+
 ghost use Rattle.std.specs.Prelude.{◌≡◌, [], ◌∷◌, ◌++◌, ◌<◌, ◌≤◌, ◌+◌, ◌-◌, leb, eqb, take, drop};
 ghost use Rattle.rules.specs.Clock.{end_of_time};
 ghost use Rattle.packing.specs.Packing.{all_are, is_unused};
@@ -14,7 +16,7 @@ use model::Last;
 
 // The first `len` words hold the admissions, the oldest first; the others are zero.
 #[repr(C)]
-#[derive(Drop)]
+#[derive(Clone, Copy)]
 pub struct Ledger {
     pub len: usize,
     pub slots: [u32; 40],
@@ -45,7 +47,7 @@ fn age_in(word: u32) -> u32
     word / UNIT
 }
 
-// A word's on_time.
+// A word's on-time.
 fn ontime_in(word: u32) -> u32
     ensures { result ≡ ontime_in word }
 {
@@ -184,7 +186,7 @@ fn is_well_kept(n: usize, slots: &[u32], first: u32, most: u32) -> bool
 }
 
 // Whether a ledger is sound. Its base is the time of the last admission, which is the newest, so its word is
-// just its on_time. The first word may be as old as is young now, and the others follow in step.
+// just its on-time. The first word may be as old as is young now, and the others follow in step.
 pub fn is_sound(n: usize, slots: &[u32], profile: u32, time: u64, last: Last) -> bool
     requires forty { Forty slots.now }
     requires time_le_end_of_time { time ≤ end_of_time }
@@ -361,7 +363,8 @@ pub fn note(n: usize, slots: &mut [u32], base: u64, at: u64, ontime: u32)
     requires packed { Packed base (ledger_of n slots.old) }
     requires n_lt_places { n < places }
     requires base_le_at { base ≤ at }
-    requires slots_value { young at (items base (ledger_of n slots.old)) ≡ items base (ledger_of n slots.old) }
+    requires slots_value { young at (items base (ledger_of n slots.old))
+        ≡ items base (ledger_of n slots.old) }
     ensures { ledger_of (n + 1) slots.new
         ≡ packed at (items base (ledger_of n slots.old) ++ (admission at ontime ∷ [])) }
 {

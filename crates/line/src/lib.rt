@@ -1,4 +1,6 @@
 // One list of up to 20 packets in order of arrival: push, count, expire, pick, remove, sound.
+#![tactic(auto)]
+
 ghost use Rattle.std.specs.Prelude.{◌≡◌, true, cond, ◌&&◌, [], ◌≤◌, leb, length, drop};
 ghost use Rattle.packing.specs.Packing.{all_are};
 ghost use Rattle.model.specs.Packets.{without_expired, in_order};
@@ -10,7 +12,7 @@ use model::Packet;
 
 // The first `len` places hold the waiting packets in order of arrival; the others are zero.
 #[repr(C)]
-#[derive(Drop)]
+#[derive(Clone, Copy)]
 pub struct Line {
     pub len: usize,
     pub packets: [Packet; 20],

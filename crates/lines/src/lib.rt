@@ -1,4 +1,6 @@
 // The line of an answer, and the last line (document 01, "The call log and its program").
+#![tactic(auto)]
+
 ghost use Rattle.std.specs.Prelude.{◌≡◌, ◌+◌, ◌≤◌, length};
 ghost use Rattle.io.specs.Digits.{last_digits, IsDigitCount};
 ghost use Rattle.records.specs.Buffers.{written, Put};

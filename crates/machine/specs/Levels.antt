@@ -1,6 +1,7 @@
 -- A list of levels, the first edition's states (document 02, W-213; document 000, clause 6.4.3): what it
 -- means, which list is good, and the wait of each level.
-use Rattle.std.specs.Prelude.{ℕ, zero, suc, ◌≤◌, ◌<◌, min, ◌≡◌, Bool, true, false, not, ◌&&◌, List, [], ◌∷◌, leb, ltb, eqb, length, take, drop, get_or, replicate}
+use Rattle.std.specs.Prelude.{ℕ, zero, suc, ◌≤◌, ◌<◌, min, ◌≡◌, Bool, true, false, not, ◌&&◌, List, [], ◌∷◌}
+use Rattle.std.specs.Prelude.{leb, ltb, eqb, length, take, drop, get_or, replicate}
 use Rattle.rules.specs.Tests.{all_of}
 use Rattle.rules.specs.Profiles.{within, full_load}
 use Rattle.packing.specs.Packing.{filled, all_are, is_unused}

@@ -1,5 +1,6 @@
 -- The last loads (document 02, W-213): "its last loads in order of coming, at most 50, unused room zero".
-use Rattle.std.specs.Prelude.{ℕ, ◌-◌, ◌≤◌, ◌≡◌, Bool, true, cond, ◌&&◌, List, [], ◌∷◌, ◌++◌, eqb, length, take, drop, replicate}
+use Rattle.std.specs.Prelude.{ℕ, ◌-◌, ◌≤◌, ◌≡◌, Bool, true, cond, ◌&&◌, List, [], ◌∷◌, ◌++◌, eqb, length}
+use Rattle.std.specs.Prelude.{take, drop, replicate}
 use Rattle.rules.specs.Profiles.{within, full_load}
 use Rattle.packing.specs.Packing.{filled, all_are, padded, is_unused}
 use Rattle.machine.specs.declared.Loads.{Loads}

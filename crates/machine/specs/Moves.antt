@@ -1,6 +1,7 @@
 -- How a sample moves the level (document 02, W-213; document 000, clause 6.4.2). EQ 24 and EQ 25 of document
 -- 000 print unlike indices, so document 02 decides.
-use Rattle.std.specs.Prelude.{ℕ, zero, suc, ◌+◌, ◌-◌, ◌≤◌, ◌<◌, min, max, ◌≡◌, Bool, true, cond, List, [], ◌∷◌, leb, ltb, length, get_or}
+use Rattle.std.specs.Prelude.{ℕ, zero, suc, ◌+◌, ◌-◌, ◌≤◌, ◌<◌, min, max, ◌≡◌, Bool, true, cond, List, []}
+use Rattle.std.specs.Prelude.{◌∷◌, leb, ltb, length, get_or}
 use Rattle.rules.specs.Profiles.{full_load}
 use Rattle.rules.specs.Duty.{held}
 use Rattle.machine.specs.declared.Levels.{Levels}

@@ -2,6 +2,8 @@
 // the wait of a level (document 02, W-213). What reads numbers takes them as slices, so that a caller lends
 // its arrays where they lie; methods do the same for the structs. What is public answers for every input, but
 // for `note_load`, which writes and asks for the 50 places that a struct has.
+#![tactic(auto)]
+
 ghost use Rattle.std.specs.Prelude.{◌≡◌, ◌≤◌, ◌-◌, min, max, length, take, eqb};
 ghost use Rattle.rules.specs.Profiles.{within};
 ghost use Rattle.packing.specs.Packing.{all_are, filled, is_unused};
@@ -14,7 +16,7 @@ ghost use Rattle.machine.specs.Moves.{level_after, moved_by};
 
 // Up to 8 levels above level 0: how many, the wait of level 0, the threshold and the wait of each above it.
 #[repr(C)]
-#[derive(Drop)]
+#[derive(Clone, Copy)]
 pub struct Levels {
     pub len: usize,
     pub wait: u32,
@@ -24,14 +26,14 @@ pub struct Levels {
 
 // The last loads, the oldest first.
 #[repr(C)]
-#[derive(Drop)]
+#[derive(Clone, Copy)]
 pub struct Loads {
     pub len: usize,
     pub slots: [u32; 50],
 }
 
 // What a sample leaves.
-#[derive(Drop)]
+#[derive(Clone, Copy)]
 pub struct Moved {
     pub level: u32,
     pub loads: Loads,

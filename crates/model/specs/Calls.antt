@@ -2,7 +2,6 @@
 -- "State and calls").
 use Rattle.std.specs.Prelude.{ℕ, Bool, List, eqb}
 use Rattle.machine.specs.declared.Levels.{Levels}
-use Rattle.model.specs.declared.Packet.{Packet}
 use Rattle.model.specs.declared.Offer.{Offer}
 use Rattle.model.specs.declared.Reply.{Reply}
 use Rattle.model.specs.declared.Answer.{Answer}

@@ -101,7 +101,7 @@ pub record Claims (profile : ℕ) (v : View) (j : Journal) : Type 0 where
   pub sent : (stamp : ℕ) (p : Packet) → (call v (poll stamp)).answer ≡ Sent p
       → (l : Entry) × (top (at_poll j stamp).columns ≡ l ∷ []) × (l.packet ≡ p)
   -- "A packet of priority 0 still there .. has seen at most k admissions"
-  pub still_there_lem : All (λ (l : Entry). length j.admissions ≤ l.earlier + l.above) j.columns.c0
+  pub still_waiting : All (λ (l : Entry). length j.admissions ≤ l.earlier + l.above) j.columns.c0
   -- a packet of priority 0 leaves by expiry, by displacement, or no later than with the (k+1)th admission
   -- after it came
   pub leaving :
@@ -143,4 +143,5 @@ abbrev pub RunsAreTheirParts : Type 0
 RunsAreTheirParts =
     (v : View) (j : Journal) (cs ds : List Call)
     → (view_after v (cs ++ ds) ≡ view_after (view_after v cs) ds)
-    × (journal_of j (events v (cs ++ ds)) ≡ journal_of (journal_of j (events v cs)) (events (view_after v cs) ds))
+    × (journal_of j (events v (cs ++ ds)) ≡ journal_of (journal_of j (events v cs))
+    (events (view_after v cs) ds))

@@ -1,12 +1,11 @@
 -- What an accepted call does (document 01, "The clock", "Samples", "Waiting and leaving").
-use Rattle.std.specs.Prelude.{ℕ, ◌+◌, ◌-◌, max, Bool, cond, not, ◌&&◌, List, [], ◌∷◌, ◌++◌, leb, ltb, eqb}
+use Rattle.std.specs.Prelude.{ℕ, ◌+◌, ◌-◌, max, Bool, cond, not, ◌&&◌, [], ◌∷◌, ◌++◌, leb, ltb, eqb}
 use Rattle.rules.specs.Clock.{step_of}
 use Rattle.rules.specs.Profiles.{room}
 use Rattle.rules.specs.Samples.{busy_of, load_of}
 use Rattle.control.specs.Control.{sampled}
 use Rattle.control.specs.Wait.{closed_after}
 use Rattle.model.specs.declared.Packet.{Packet}
-use Rattle.model.specs.declared.Admission.{Admission}
 use Rattle.model.specs.declared.Clock.{Clock}
 use Rattle.model.specs.declared.Counts.{Counts}
 use Rattle.model.specs.declared.Answer.{Answer}

@@ -1,6 +1,6 @@
 -- Four lists, one a priority: the gate's "four queues" and the "four columns" of the book (document 01,
 -- "State and calls", "A run and its book"). Nothing here looks into an element.
-use Rattle.std.specs.Prelude.{ℕ, zero, suc, ◌+◌, List, [], ◌∷◌, length}
+use Rattle.std.specs.Prelude.{ℕ, zero, suc, ◌+◌, List, [], length}
 
 -- "four queues", "index 0 highest"
 pub record Four (A : Type 0) : Type 0 where

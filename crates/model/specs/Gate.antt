@@ -1,7 +1,9 @@
 -- The gate: the first check that holds is the answer, else the call's effect (document 01, "Refusal
 -- numbers").
-use Rattle.std.specs.Prelude.{ℕ, ◌+◌, ◌-◌, ◌%◌, ◌≤◌, ◌<◌, ◌≡◌, Bool, true, not, cond, ◌&&◌, List, [], ◌∷◌, ◌++◌, ltb, leb, eqb, length}
-use Rattle.rules.specs.Profiles.{is_profile, last_priority, ontime_allowed, lifetime_allowed, room, most_offers}
+use Rattle.std.specs.Prelude.{ℕ, ◌+◌, ◌-◌, ◌%◌, ◌≤◌, ◌<◌, ◌≡◌, Bool, true, not, cond, ◌&&◌, List, [], ◌∷◌}
+use Rattle.std.specs.Prelude.{◌++◌, ltb, leb, eqb, length}
+use Rattle.rules.specs.Profiles.{is_profile, last_priority, ontime_allowed, lifetime_allowed, room}
+use Rattle.rules.specs.Profiles.{most_offers}
 use Rattle.rules.specs.Clock.{stamps, step_of, goes_back, end_of_time, passes_end}
 use Rattle.rules.specs.Samples.{good_words, bad_count}
 use Rattle.rules.specs.Refusals.{Check, check, first_of, FirstHolds, NoneHolds}
@@ -81,7 +83,8 @@ call v c = unless_refused (first_of (checks v c)) v (effect v c)
 
 -- demand 1: "a refused call (make apart) changes nothing", whatever way packets wait
 abbrev pub RefusalsChangeNothing : Holding → Type 0
-RefusalsChangeNothing h = (v : Status h) (c : Call) → is_refused (call v c).answer ≡ true → (call v c).view ≡ v
+RefusalsChangeNothing h = (v : Status h) (c : Call) → is_refused (call v c).answer ≡ true → (call v c).view
+    ≡ v
 
 -- demand 2: number n is answered exactly if n's check is the first of the table that holds
 abbrev pub RefusalsAreExact : Holding → Type 0
@@ -129,7 +132,7 @@ pub record AskedAgain {h : Holding} (v : Status h) (stamp n : ℕ) (ask : (later
   -- "that packet": the one that goes next
   pub packet : Packet
   pub others : h.Held
-  pub goes_next_lem : h.next v.waiting ≡ chosen packet others
+  pub chosen_next : h.next v.waiting ≡ chosen packet others
   -- d µs later, the clock neither going back nor past its end and the packet not expired by then: it is sent
   -- exactly if d is at least n, and else CLOSED says what is left of n
   pub again : (d : ℕ) → d < 2147483648 → v.clock.time + d ≤ end_of_time

@@ -1,6 +1,7 @@
 -- A list in an array of some capacity, and "everything unused is zero" (document 01, "State and calls"), over
 -- any element.
-use Rattle.std.specs.Prelude.{ℕ, ◌-◌, Bool, true, ◌&&◌, List, [], ◌∷◌, ◌++◌, leb, eqb, length, drop, replicate}
+use Rattle.std.specs.Prelude.{ℕ, ◌-◌, Bool, true, ◌&&◌, List, [], ◌∷◌, ◌++◌, leb, eqb, length, drop}
+use Rattle.std.specs.Prelude.{replicate}
 
 -- the array of a list: what lies past the list is zero
 unfoldable pub filled : {A : Type 0} → (room : ℕ) → (zero : A) → List A → List A

@@ -31,7 +31,7 @@ pub record SameMoves (s : State) (t : gate-state.State) (moves : List Move) : Ty
   -- and so is all that the states say, the list parted into four queues
   pub states : in_parts (view_of (moved_all s moves)) ≡ gate.view_of (gate-bursts.moved_all t moves)
   -- no call of it meets NO-STATE
-  pub sound_state_lem : sound_state (moved_all s moves) ≡ true
+  pub stays_sound : sound_state (moved_all s moves) ≡ true
 
 -- from any sound list and the queues that are its parts
 abbrev pub SoundStatesAgree : Type 0

@@ -1,5 +1,7 @@
 // The plain engine: the gate with one list of packets in order of arrival, written to be read (document 02,
 // W-212).
+#![tactic(auto)]
+
 ghost use Rattle.std.specs.Prelude.{◌≡◌, true, ◌&&◌, [], ◌∷◌, ◌++◌, leb, eqb, length, ◌-◌, ◌≤◌, ◌<◌, max};
 ghost use Rattle.rules.specs.Profiles.{last_priority, room, full_load};
 ghost use Rattle.rules.specs.Refusals.{first_of};
@@ -33,7 +35,7 @@ use rules::Sample;
 // displaces the first of those. `live` is 1, or 0 before a make that was not refused. The loads and the
 // levels are profile 5's, and zero in every other.
 #[repr(C)]
-#[derive(Drop)]
+#[derive(Clone, Copy)]
 pub struct State {
     pub line: Line,
     pub ledger: Ledger,
@@ -49,7 +51,7 @@ pub struct State {
 }
 
 // What a call gives: the next state and the answer.
-#[derive(Drop)]
+#[derive(Clone, Copy)]
 pub struct Outcome {
     pub state: State,
     pub answer: Answer,
@@ -115,7 +117,7 @@ fn air_left(l: Ledger, base: u64, ontime: u32, time: u64) -> u64
 
 // What a burst leaves: the state, and the number that refuses it, or 0.
 #[repr(C)]
-#[derive(Drop)]
+#[derive(Clone, Copy)]
 pub struct BurstTurn {
     pub state: State,
     pub number: u32,

@@ -1,5 +1,7 @@
 // The plain engine's calls for a C or Rust host, to run beside the gate's: state and answer as plain structs,
 // by value (document 01, "State and calls"; document 02, W-212).
+#![tactic(auto)]
+
 ghost use Rattle.std.specs.Prelude.{◌≡◌, length};
 ghost use Rattle.model.specs.Calls.{plain_reply, reply_of, making_of, words, count, offer, poll};
 ghost use Rattle.plain.specs.Layout.{call_on, make_state};
@@ -15,7 +17,7 @@ pub mod edition;
 
 // What a call hands back: the next state, and the answer as plain numbers.
 #[repr(C)]
-#[derive(Drop)]
+#[derive(Clone, Copy)]
 pub struct Turn {
     pub state: State,
     pub reply: Reply,

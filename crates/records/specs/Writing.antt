@@ -1,6 +1,7 @@
 -- The writer: the record of a call, its 16 bytes, and a log after it (document 02, W-206; document 01,
 -- "The call log and its program").
-use Rattle.std.specs.Prelude.{ℕ, zero, suc, ◌+◌, ◌/◌, ◌%◌, ◌^◌, ◌≤◌, ◌<◌, ◌≡◌, Bool, true, not, cond, List, [], ◌∷◌, ◌++◌, eqb, leb, ltb, length, take, drop}
+use Rattle.std.specs.Prelude.{ℕ, zero, suc, ◌+◌, ◌/◌, ◌%◌, ◌^◌, ◌≤◌, ◌<◌, ◌≡◌, Bool, true, not, cond, List}
+use Rattle.std.specs.Prelude.{[], ◌∷◌, ◌++◌, eqb, leb, ltb, length, take, drop}
 use Rattle.rules.specs.Refusals.{Check, check, first_of, NoneHolds, Exact}
 use Rattle.rules.specs.Samples.{usual_probes, busy_of, good_words}
 use Rattle.machine.specs.Levels.{no_levels}

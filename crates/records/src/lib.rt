@@ -1,5 +1,7 @@
 // A call's record in the log: its 16 bytes read and, in `writer`, written (document 01, "The call log and its
 // program").
+#![tactic(auto)]
+
 ghost use Rattle.std.specs.Prelude.{◌≡◌, ◌+◌, ◌≤◌, ◌<◌, length};
 ghost use Rattle.checks.specs.Checks.{call_of};
 ghost use Rattle.records.specs.Records.{two_at, four_at, record_at, whole_record_at};
@@ -12,7 +14,7 @@ pub mod writer;
 
 // A record's fields. Of a make, `priority` is the profile and `lifetime` says which way it is made; of a
 // sample, `id` is the busy count and `lifetime` the probe count, or 0.
-#[derive(Drop)]
+#[derive(Clone, Copy)]
 pub struct Record {
     pub kind: u32,
     pub priority: u32,

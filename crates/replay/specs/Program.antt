@@ -2,9 +2,9 @@
 -- left in the block, from its first on, as many as they said that they put there: each once, in order, and
 -- none is left out. The state at the end is that of some log: nothing is known of what a read brings.
 --
--- What no contract of the C library says is no part of it: that a read puts there what comes next on standard
--- input, and answers 0 only at its end; and that a write puts the bytes that it is handed on standard output,
--- once and in order.
+-- What no contract of std says is no part of it: that a read puts there what comes next on standard input,
+-- and answers 0 only at its end; and that a write puts the bytes that it is handed on standard output, once
+-- and in order.
 use Rattle.std.specs.Prelude.{ℕ, ◌*◌, ◌/◌, ◌≡◌, Bool, true, List, length}
 use Rattle.gate.specs.declared.State.{State}
 use Rattle.records.specs.Records.{record_bytes}

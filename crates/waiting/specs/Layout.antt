@@ -1,7 +1,8 @@
 -- Four queues in two rows. Of each there are sixteen words: how many wait, and then the identifier, on-time
 -- and lifetime of five places, the oldest packet first; and five times: when those came. What is unused is
 -- zero (document 01, "State and calls").
-use Rattle.std.specs.Prelude.{ℕ, ◌+◌, ◌*◌, ◌-◌, ◌≡◌, Bool, true, cond, ◌&&◌, List, [], ◌∷◌, ◌++◌, map, leb, ltb, eqb, length, take, drop, get_or, set, replicate}
+use Rattle.std.specs.Prelude.{ℕ, ◌+◌, ◌*◌, ◌-◌, ◌≡◌, Bool, true, cond, ◌&&◌, List, [], ◌∷◌, ◌++◌, map, leb}
+use Rattle.std.specs.Prelude.{ltb, eqb, length, take, drop, get_or, set, replicate}
 use Rattle.rules.specs.Tests.{all_of}
 use Rattle.rules.specs.Profiles.{room, within, lifetime_allowed}
 use Rattle.packing.specs.Packing.{filled, padded}
@@ -184,7 +185,8 @@ rows_for q = laid (cells_of q.c0 ∷ cells_of q.c1 ∷ cells_of q.c2 ∷ cells_o
 -- "every queue length at most 5, .. and everything unused is zero"
 unfoldable pub tidy : Rows → Bool
 tidy r =
-    all_of (tidy_queue (part 0 r) ∷ tidy_queue (part 1 r) ∷ tidy_queue (part 2 r) ∷ tidy_queue (part 3 r) ∷ [])
+    all_of (tidy_queue (part 0 r) ∷ tidy_queue (part 1 r) ∷ tidy_queue (part 2 r) ∷ tidy_queue (part 3 r)
+    ∷ [])
 
 -- tidy, and the four lists as the model's rules ask
 unfoldable pub sound_queues : (profile now : ℕ) → Rows → Bool

@@ -1,8 +1,11 @@
 // Packets that wait, in rows that are lent where they lie. A queue is sixteen words and five times: how many
-// wait; then the id, the on_time and the lifetime of each of five places, the oldest first; and when each
+// wait; then the id, the on-time and the lifetime of each of five places, the oldest first; and when each
 // came. Places that are not used are zero. Four queues stand one behind the other, queue 0 first. What nearly
 // every call does counts in 32 bits: in 64, a small processor takes half as many instructions again.
-ghost use Rattle.std.specs.Prelude.{◌≡◌, ◌&&◌, [], ◌∷◌, ◌++◌, map, ◌<◌, ◌≤◌, ◌-◌, length, take, drop, set, get_or};
+#![tactic(auto)]
+
+ghost use Rattle.std.specs.Prelude.{◌≡◌, ◌&&◌, [], ◌∷◌, ◌++◌, map, ◌<◌, ◌≤◌, ◌-◌, length, take, drop, set};
+ghost use Rattle.std.specs.Prelude.{get_or};
 ghost use Rattle.rules.specs.Profiles.{room};
 ghost use Rattle.packing.specs.Packing.{all_are, is_unused};
 ghost use Rattle.waiting.specs.Layout.{rows, Sized, cell_at, len_in, put_at, cells, items, packed, Packed};
@@ -18,7 +21,7 @@ pub const PLACES: usize = 5;
 pub const WORDS: usize = 16;
 
 // What stands in a place: a packet but for its priority, which is its queue's number.
-#[derive(Drop)]
+#[derive(Clone, Copy)]
 pub struct Cell {
     pub id: u32,
     pub ontime: u32,
@@ -34,7 +37,7 @@ const NO_CELL: Cell = Cell {
 };
 
 // What a search finds: a queue's number, and its first live packet.
-#[derive(Drop)]
+#[derive(Clone, Copy)]
 pub enum Found {
     Nothing,
     At(usize, Cell),
