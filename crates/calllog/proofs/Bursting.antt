@@ -122,7 +122,7 @@ runs_with_bursts m moves ready =
     record {
       final = same;
       heard = alike;
-      sound_state_lem = subst⁻¹ (λ (t : State). sound_state t ≡ true) same run.sound_state_lem;
+      stays_sound = subst⁻¹ (λ (t : State). sound_state t ≡ true) same run.stays_sound;
       claims =
           subst⁻¹ (λ (t : State). Claims m.profile (view_of t) (journal_heard m s moves)) same
           (subst⁻¹ (λ (l : List (Call × Answer)). Claims m.profile (view_of reached) (journal_of (opened m.stamp) l)) alike

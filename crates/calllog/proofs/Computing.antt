@@ -18,7 +18,8 @@ unfolding of_runs filled all_are padded waiting.triples waiting.words_of waiting
 of_states = Unit {0}
 
 unfoldable pub of_logs : Type 0
-unfolding output_from reached_from lines_from line_of last_line decimal digits_in step_on asked_by probes_in profile_in record_at two_at
+unfolding output_from reached_from lines_from line_of last_line decimal digits_in step_on asked_by probes_in profile_in record_at
+    two_at
     four_at
 of_logs = Unit {0}
 

@@ -29,7 +29,8 @@ same_answer s (calls (poll stamp)) h = refl
 same_answer s unknown h = refl
 
 -- so a record that was written is answered as its call
-step_same : (s : State) (a : Asked) (rec : Record) → rec ≡ record_of a → NoneHolds (argument_checks a) → step_on s rec ≡ answered s a
+step_same : (s : State) (a : Asked) (rec : Record) → rec ≡ record_of a → NoneHolds (argument_checks a) → step_on s rec
+    ≡ answered s a
 unfolding step_on
 step_same s a rec e h = ap (λ (r : Record). answered s (asked_by r)) e ∙ ap (answered s) (asks a h) ∙ same_answer s a h
 

@@ -82,7 +82,7 @@ all-written = (
 )
 
 -- "The trailer should record its own calls.": the program's text of their log is what the gate answered, and END
-played_back : output_of (log_of four) ≡ ascii "READY\n_taken\n_taken\n_sent 65541\n_end\n"
+played_back : output_of (log_of four) ≡ ascii "READY\nTAKEN\nTAKEN\nSENT 65541\nEND\n"
 unfolding of_writes of_logs four answer_lines
 played_back = log_plays_back at_start four all-written
 
@@ -113,7 +113,8 @@ list_left_out = (lists_left_out (making_of 4 0 one_level 9)).made (λ z. omega a
 polls : List ℕ
 polls = replicate 32 3
 
-in_pieces : (s : State) → output_from s (polls ++ (7 ∷ [])) ≡ lines_from s polls 2 ++ output_from (reached_from s polls 2) (7 ∷ [])
+in_pieces : (s : State) → output_from s (polls ++ (7 ∷ [])) ≡ lines_from s polls 2
+    ++ output_from (reached_from s polls 2) (7 ∷ [])
 unfolding polls
 in_pieces s = pieces s polls (7 ∷ []) 2 refl
 

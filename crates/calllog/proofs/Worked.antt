@@ -66,7 +66,7 @@ log =
     ++ (1 ∷ 0 ∷ 0 ∷ 0 ∷ 32 ∷ 78 ∷ 0 ∷ 0 ∷ 0 ∷ 0 ∷ 0 ∷ 0 ∷ 6 ∷ 0 ∷ 0 ∷ 0 ∷ [])
     ++ (3 ∷ 0 ∷ 0 ∷ [])
 
-output : output_of log ≡ ascii "REFUSED 10\n_ready\n_refused 4\n_taken\n_refused 4\n_torn\n"
+output : output_of log ≡ ascii "REFUSED 10\nREADY\nREFUSED 4\nTAKEN\nREFUSED 4\nTORN\n"
 unfolding log of_states of_logs
 output = refl
 
@@ -79,7 +79,7 @@ log4 =
     ++ (3 ∷ 0 ∷ 0 ∷ 0 ∷ 0 ∷ 0 ∷ 0 ∷ 0 ∷ 0 ∷ 0 ∷ 0 ∷ 0 ∷ 8 ∷ 0 ∷ 0 ∷ 0 ∷ [])
     ++ (0 ∷ 4 ∷ 0 ∷ 0 ∷ 0 ∷ 0 ∷ 0 ∷ 0 ∷ 0 ∷ 0 ∷ 0 ∷ 0 ∷ 9 ∷ 0 ∷ 0 ∷ 0 ∷ [])
 
-output4 : output_of log4 ≡ ascii "READY\n_idle\n_refused 1\n_refused 9\n_ready\n_end\n"
+output4 : output_of log4 ≡ ascii "READY\nIDLE\nREFUSED 1\nREFUSED 9\nREADY\nEND\n"
 unfolding log4 of_states of_logs
 output4 = refl
 

@@ -22,7 +22,7 @@ use Rattle.model.specs.Gate.{own_checks, checks, unless_refused, call}
 use Rattle.model.proofs.Refusals.{checks_numbered, effect_accepts}
 use Rattle.model.proofs.Sampling.{read_good, read_bad, good_alike, bad_alike}
 use Rattle.checks.specs.Checks.{clock_number, Entered}
-use Rattle.checks.proofs.Judged.{in_time_lem}
+use Rattle.checks.proofs.Judged.{in_good_time}
 use Rattle.checks.proofs.Engine.{Engine, sound_in, laid, outcome_in, call_in, sound_view}
 
 pub entered : (u : Bool) (clock : Clock) (stamp : ℕ) → u ≡ true → clock_number clock stamp ≡ 0 → Entered u clock stamp
@@ -32,7 +32,7 @@ entered u clock stamp e z =
     (λ f. absurd (omega (arith, rw f at z)))
     (λ f. split (passes_end (stepped clock stamp).time)
     (λ g. absurd (omega (arith, rw (f, g) at z)))
-    (λ g. record { is_sound_lem = e; forward = f; not_past = g }))
+    (λ g. record { judged_sound = e; forward = f; not_past = g }))
 
 number : {h : Holding} (v : Status h) (c : Call) → sound v ≡ true
     → first_of (checks v c)
@@ -78,20 +78,20 @@ module _ {h : Holding} (e : Engine h) (s : e.State) where
   -- the state with the clock moved and the expired gone is sound then
   pub refreshed-sound : (stamp : ℕ) → Entered (sound_in e s) view.clock stamp → sound (refreshed view stamp) ≡ true
   refreshed-sound stamp n =
-      e.refreshes view stamp (sound_view e s n.is_sound_lem) (in_time_lem (stepped view.clock stamp).time n.not_past)
+      e.refreshes view stamp (sound_view e s n.judged_sound) (in_good_time (stepped view.clock stamp).time n.not_past)
 
   module _ (c : Call) (n : Entered (sound_in e s) view.clock (stamp_of c)) where
     own_number : first_of (checks view c) ≡ first_of (own_checks view c)
-    own_number = rw (n.forward, n.not_past) at (number view c (sound_view e s n.is_sound_lem))
+    own_number = rw (n.forward, n.not_past) at (number view c (sound_view e s n.judged_sound))
 
     -- refused by its own
     pub own_refused : (k : ℕ) → first_of (own_checks view c) ≡ k → (k ≡ 0 → ⊥) → e.outcome s (Refused k) ≡ call_in e s c
-    own_refused k f g = by_number c k n.is_sound_lem (own_number ∙ f) g
+    own_refused k f g = by_number c k n.judged_sound (own_number ∙ f) g
 
     -- done
     module _ (f : first_of (own_checks view c) ≡ 0) where
       pub accepted : laid e (effect view c) ≡ call_in e s c
-      accepted = sym (called c 0 n.is_sound_lem (own_number ∙ f) ∙ rw (effect_accepts view c))
+      accepted = sym (called c 0 n.judged_sound (own_number ∙ f) ∙ rw (effect_accepts view c))
 
       pub called_effect : call view c ≡ effect view c
       unfolding call
@@ -106,7 +106,7 @@ module _ {h : Holding} (e : Engine h) (s : e.State) where
   passed c f z =
       let none = of_none (checks view c) (checks_numbered view c) z in
       let n : Entered (sound_in e s) view.clock (stamp_of c) =
-      record { is_sound_lem = f; forward = none.1.0; not_past = none.1.1.0 } in
+      record { judged_sound = f; forward = none.1.0; not_past = none.1.1.0 } in
       (n, sym (own_number c n) ∙ z)
 
   -- a sample by words is one by its busy count

@@ -13,9 +13,9 @@ use Rattle.model.specs.Ledger.{ledger_rules}
 use Rattle.model.specs.State.{Status, last_rules, count_rules, sound}
 use Rattle.checks.proofs.Engine.{Engine, sound_in}
 
-pub in_time_lem : (time : ℕ) → passes_end time ≡ false → time ≤ end_of_time
+pub in_good_time : (time : ℕ) → passes_end time ≡ false → time ≤ end_of_time
 unfolding passes_end
-in_time_lem time e = ltb-false end_of_time time e
+in_good_time time e = ltb-false end_of_time time e
 
 -- an answer of no says nothing more
 pub no : (u : Bool) (P : Type 0) → u ≡ false → (false ≡ u) × (false ≡ true → P)

@@ -82,4 +82,4 @@ module _ {h : Holding} (e : Engine h) (s a : e.State) (stamp : ℕ) (n : Entered
   poll_keeps =
       ap (λ (w : Status h). sound (polled w (h.next w.waiting)).view) view
       ∙ ap (λ (o : Result h). sound o.view) (sym (called_effect e s (poll stamp) n (none_own (e.view_of s) stamp)))
-      ∙ e.keeps (e.view_of s) (poll stamp) (sound_view e s n.is_sound_lem)
+      ∙ e.keeps (e.view_of s) (poll stamp) (sound_view e s n.judged_sound)

@@ -31,7 +31,7 @@ module _ (r : Run) where
 
   begins : sound_state (make_state r.making).state ≡ true
   unfolding state_after
-  begins = (promised []).sound_state_lem
+  begins = (promised []).stays_sound
 
   -- make's state reads as the model's
   back : view_of (make_state r.making).state ≡ first
@@ -46,11 +46,11 @@ module _ (r : Run) where
 
   same_since : (calls : List Call) → by_code.since r calls ≡ by_model.since r calls
   same_since calls =
-      (run_reads (state_at_end r) calls (promised r.calls).sound_state_lem).answers ∙ ap (λ (v : View). events v calls) reads
+      (run_reads (state_at_end r) calls (promised r.calls).stays_sound).answers ∙ ap (λ (v : View). events v calls) reads
 
   same_next : (c : Call) → by_code.next r c ≡ by_model.next r c
   same_next c =
-      (call_reads (state_at_end r) c (promised r.calls).sound_state_lem).1 ∙ ap (λ (v : View). (call v c).answer) reads
+      (call_reads (state_at_end r) c (promised r.calls).stays_sound).1 ∙ ap (λ (v : View). (call v c).answer) reads
 
 pub same_answers : SameAnswers
 same_answers i =

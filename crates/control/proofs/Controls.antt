@@ -17,18 +17,17 @@ use Rattle.rules.proofs.Profiles.{duty_within}
 use Rattle.rules.proofs.Levels.{wanted_le, towards-le}
 use Rattle.rules.proofs.Duty.{smoothed_le, duty_held}
 use Rattle.machine.specs.declared.Levels.{Levels}
-use Rattle.machine.specs.declared.Loads.{Loads}
-use Rattle.machine.specs.Levels.{bad_list, good_list, sound_list, none_listed, no_levels, thresholds, tidied, most_levels}
+use Rattle.machine.specs.Levels.{bad_list, good_list, sound_list, none_listed, no_levels, thresholds}
 use Rattle.machine.specs.Loads.{sound_loads, none_held, no_loads, loads}
 use Rattle.machine.specs.Loads as held
 use Rattle.packing.specs.Packing as packing
-use Rattle.machine.specs.Moves.{level_after, moved_by}
+use Rattle.machine.specs.Moves.{moved_by}
 use Rattle.machine.proofs.Parts.{length-listed}
 use Rattle.machine.proofs.Noted.{noted-sound}
 use Rattle.machine.proofs.Bounds.{always_moves}
 use Rattle.machine.proofs.Tidying.{good_is_tidied}
 use Rattle.control.specs.declared.Tuning.{Tuning}
-use Rattle.control.specs.Control.{Control, control_of, fresh_tuning, list_kept, fresh_control, pairing_sound, latest_sound, top_of}
+use Rattle.control.specs.Control.{Control, list_kept, fresh_control, pairing_sound, latest_sound, top_of}
 use Rattle.control.specs.Control.{listing_sound, tuning_rules, tuning_sound, Steerable, control_rules, sound_control}
 use Rattle.control.specs.Control.{with_level, level_stepped, paired, noted, tuned, moved_in, loads_after, sampled}
 

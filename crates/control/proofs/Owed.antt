@@ -17,7 +17,7 @@ use Rattle.rules.proofs.Factors.{within4}
 use Rattle.control.specs.Control.{Control, sound_control}
 use Rattle.control.specs.Wait.{wait_of, wait_with}
 use Rattle.control.specs.Owed.{spare, least_gap, second, quiet, Floors, claims_ceiling}
-use Rattle.control.specs.Owed.{Keeps, KeepsCeiling, Allowed, AllKeep, ClaimantsKeep}
+use Rattle.control.specs.Owed.{KeepsCeiling, Allowed, AllKeep, ClaimantsKeep}
 use Rattle.control.proofs.Controls.{test_control, duty_limits, list_good}
 
 pub floors : Floors

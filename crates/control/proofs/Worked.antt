@@ -13,7 +13,6 @@ use Rattle.rules.specs.Wait.{adaptive_wait, start_of}
 use Rattle.rules.specs.Harmonised.{per_mille, factor_of, harmonised_wait}
 use Rattle.packing.specs.Packing as packing
 use Rattle.machine.specs.declared.Levels.{Levels}
-use Rattle.machine.specs.declared.Loads.{Loads}
 use Rattle.machine.specs.Levels.{levels_of, no_levels, threshold_at, wait_at, rising, good_list, sound_list, tidied, none_listed}
 use Rattle.machine.specs.Loads.{loads_of, no_loads, packed, sound_loads, none_held}
 use Rattle.machine.specs.Moves.{least_from, greatest_from, least_of, low_of, high_of, reaches, highest_to, level_after, moved_by}
@@ -76,7 +75,8 @@ all-zero = refl
 
 -- A sound control keeps all of the rules below; in each example the rest of the control is sound.
 unfoldable of_soundness : Type 0
-unfolding within pairing_sound latest_sound sound_control tuning_sound top_of listing_sound good_list rising sound_list none_listed
+unfolding within pairing_sound latest_sound sound_control tuning_sound top_of listing_sound good_list rising sound_list
+    none_listed
     sound_loads none_held packed packing.all_are packing.filled packing.padded
 of_soundness = Unit {0}
 

@@ -128,7 +128,8 @@ update_loads = refl
 -- number" (W-209)
 
 wait : (profile level duty ontime load : ℕ) → WaitAnswer
-unfolding within most_ontime ontime_allowed first_of wait_by adaptive_wait per_mille factor_of harmonised_wait wait_with wait_answer
+unfolding within most_ontime ontime_allowed first_of wait_by adaptive_wait per_mille factor_of harmonised_wait wait_with
+    wait_answer
 wait profile level duty ontime load =
     wait_answer (record { profile = profile; level = level; duty = duty; ontime = ontime; load = load })
 

@@ -1,7 +1,7 @@
 -- Whatever is held, not-a-number too, comes out as one of the limits or passed the test against both.
-use mathlib.Core.Path.{◌≡◌, refl, sym, ◌∙◌}
-use mathlib.Core.Bool.{Bool, true, false, cond}
-use lib.Ieee.{Float, lt, eq, le, round}
+use mathlib.Core.Path.{◌≡◌, refl}
+use mathlib.Core.Bool.{Bool, true, false}
+use lib.Ieee.{Float, lt, le, round}
 use Rattle.floats.specs.Doubles.{held_within}
 use Rattle.floats.specs.Update.{least_duty, most_duty, is_duty, duty_of}
 

@@ -14,7 +14,7 @@ use lib.Ieee.Fits.{up_pos, down_pos}
 use lib.Ieee.Exact.{HasValue, round_exact}
 use borrow.Author.Tests.{lt-ltb, le-ltb, ne_eqb}
 use Rattle.floats.specs.Doubles.{minus, times, smaller, larger, held_within}
-use Rattle.floats.specs.Update.{zero64, target, gain, most_up, most_down, offset_of}
+use Rattle.floats.specs.Update.{target, gain, most_up, most_down, offset_of}
 
 -- x is no nan, and has the sign s
 abbrev Signed : Bool → Float → Type 0

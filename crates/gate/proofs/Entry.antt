@@ -2,11 +2,8 @@
 use Prim.Native.Nat.{ℕ, ◌<◌}
 use mathlib.Core.Path.{◌≡◌, refl, ap, ap₂, sym, ◌∙◌}
 use mathlib.Core.Bool.{true, false}
-use mathlib.Core.List.{List, [], ◌∷◌}
-use mathlib.Core.Logic.{⊎_elim}
+use mathlib.Core.List.{List}
 use native.Mathlib.Omega.{arith}
-use denote.Enum.Declared.{tag_of}
-use types.Run.{OneOf}
 use Rattle.rules.specs.Clock.{step_of, goes_back, passes_end}
 use Rattle.rules.specs.Refusals.{first_of}
 use Rattle.rules.specs.Samples.{bad_count}
@@ -23,7 +20,6 @@ use Rattle.model.specs.Gate.{own_checks, checks}
 use Rattle.checks.specs.declared.Request.{Request}
 use Rattle.checks.specs.declared.Request.TheVariants.{Count, Offered, Poll}
 use Rattle.checks.specs.Checks.{call_of}
-use Rattle.checks.specs.contracts.Request as request
 use Rattle.checks.proofs.Entry.{Passed, by_number, passed}
 use Rattle.waiting.specs.Layout.{waiting_in}
 use Rattle.gate.specs.declared.Head.{Head}
@@ -83,14 +79,8 @@ turned h words came air loads above waits t a o e f =
     ap₂ (λ (x : Head) (b : Answer). outcome (state_with x words came air loads above waits) b) e.0 e.1 ∙ f
 
 -- neither a sample nor an offer
-not_0 : OneOf (1 ∷ 2 ∷ []) 0 → ⊥
-not_0 e = ⊎_elim (λ (z : ◌≡◌ {A = ℕ} 0 1). omega (arith, z)) (λ (z : ◌≡◌ {A = ℕ} 0 2). omega (arith, z)) e
-
-not_1 : OneOf (0 ∷ 2 ∷ []) 1 → ⊥
-not_1 e = ⊎_elim (λ (z : ◌≡◌ {A = ℕ} 1 0). omega (arith, z)) (λ (z : ◌≡◌ {A = ℕ} 1 2). omega (arith, z)) e
-
-pub is_polled : (r : Request) → OneOf (1 ∷ 2 ∷ []) (tag_of request.the_type r) → OneOf (0 ∷ 2 ∷ []) (tag_of request.the_type r)
+pub is_polled : (r : Request) → ((busy probes : ℕ) → r ≡ Count busy probes → ⊥) → ((o : Offer) → r ≡ Offered o → ⊥)
     → r ≡ Poll
-is_polled (Count busy probes) e f = absurd (not_0 e)
-is_polled (Offered o) e f = absurd (not_1 f)
+is_polled (Count busy probes) e f = absurd (e busy probes refl)
+is_polled (Offered o) e f = absurd (f o refl)
 is_polled Poll e f = refl

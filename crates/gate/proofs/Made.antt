@@ -130,7 +130,8 @@ module _ (profile oldway n calm stamp : ℕ) (ts ps : List ℕ) where
   refused e = rw e (ap (λ (s : State). outcome s (Refused number)) all-zero)
 
   unlisted : eqb number 0 ≡ true → eqb profile 5 ≡ false → leaves zero_state ≡ make_state making
-  unfolding turn_of kept_if make_state make_in list_kept waiting.rows_for waiting.laid waiting.packed waiting.words_of waiting.flat
+  unfolding turn_of kept_if make_state make_in list_kept waiting.rows_for waiting.laid waiting.packed waiting.words_of
+      waiting.flat
       filled ledger.packed
   unlisted e f = rw (e, f)
 

@@ -94,7 +94,7 @@ module _ (h : Head) (words came air waits : List ℕ) (g : Servable h words came
   picked x z = found.0 ∙ ap (meant (waiting_in (rows words came))) z
 
   pub serves_none : f ≡ Nothing → outcome served Idle ≡ polled_on served
-  serves_none z = idles engine served t.tight t.is_sound_lem (picked Nothing z)
+  serves_none z = idles engine served t.tight t.judged_sound (picked Nothing z)
 
   module _ (k : ℕ) (c : Cell) (z : f ≡ At k c) where
     abbrev rest : Four Packet
@@ -108,13 +108,13 @@ module _ (h : Head) (words came air waits : List ℕ) (g : Servable h words came
       left = left_of_lem served t k c n m
 
       pub serves_later : (n ≡ 0 → ⊥) → outcome served (Closed n) ≡ polled_on served
-      serves_later y = closes engine served t.tight t.is_sound_lem (packet_in k c) rest (picked (At k c) z) n left y
+      serves_later y = closes engine served t.tight t.judged_sound (packet_in k c) rest (picked (At k c) z) n left y
 
       module _ (y : n ≡ 0) where
         pub may_admit : Admissible h (rows words came) air k
         may_admit =
             let room =
-            room_left engine served t.tight t.is_sound_lem (packet_in k c) rest (picked (At k c) z) n left y g.kept in
+            room_left engine served t.tight t.judged_sound (packet_in k c) rest (picked (At k c) z) n left y g.kept in
             let len = list_length h.last.at (ledger_for h air) (known served t).ledger_tight in
             admissible served t k in_four (omega (arith, room, len))
 
@@ -125,7 +125,7 @@ module _ (h : Head) (words came air waits : List ℕ) (g : Servable h words came
 
           sent : outcome then (Sent (packet_in k c)) ≡ polled_on served
           sent =
-              sends engine served t.tight t.is_sound_lem (packet_in k c) rest (picked (At k c) z) n left y then
+              sends engine served t.tight t.judged_sound (packet_in k c) rest (picked (At k c) z) n left y then
               (leaves served t k c h' words' came' air' a)
 
           pub serves_now : (p : Packet) → p ≡ packet_in k c → outcome then (Sent p) ≡ polled_on served

@@ -36,18 +36,18 @@ call_reads s c e =
 
 -- a run of states, read as a run of views
 pub record RunReads (s : State) (cs : List Call) : Type 0 where
-  pub is_sound_lem : sound_state (state_after s cs) ≡ true
+  pub judged_sound : sound_state (state_after s cs) ≡ true
   pub view : view_of (state_after s cs) ≡ view_after (view_of s) cs
   pub answers : events_on s cs ≡ events (view_of s) cs
 
 pub run_reads : (s : State) (cs : List Call) → sound_state s ≡ true → RunReads s cs
 unfolding state_after events_on view_after events
-run_reads s [] e = record { is_sound_lem = e; view = refl; answers = refl }
+run_reads s [] e = record { judged_sound = e; view = refl; answers = refl }
 run_reads s (c ∷ cs) e =
     let r = call_reads s c e in
     let n = run_reads (call_on s c).state cs r.2 in
     record {
-      is_sound_lem = n.is_sound_lem;
+      judged_sound = n.judged_sound;
       view = n.view ∙ ap (λ (v : View). view_after v cs) r.0;
       answers =
           ap₂ (λ (a : Answer) (l : List (Call × Answer)). (c, a) ∷ l) r.1 n.answers
@@ -78,11 +78,11 @@ pub make_runs : (m : Making) → Runs (make_state m) m
 unfolding make_state sound_state
 make_runs m ready calls =
     record {
-      sound_state_lem = n.is_sound_lem;
+      stays_sound = n.judged_sound;
       answers = n.answers;
       claims = claimed;
       polls = polls_right m.profile (state_after (state_of first) calls) (journal_on m (state_of first) calls)
-          n.is_sound_lem claimed;
+          n.judged_sound claimed;
     }
   where
     first : View

@@ -11,7 +11,8 @@ use Rattle.packing.proofs.Packing.{filled-padded}
 use Rattle.model.specs.declared.Packet.{Packet}
 use Rattle.model.specs.Fours.{Four}
 use Rattle.waiting.specs.declared.Cell.{Cell}
-use Rattle.waiting.specs.Layout.{Rows, no_cell, packed, cell_of, is_zero, tidy_queue, part, laid, queue_of, cells_of, rows_for, tidy}
+use Rattle.waiting.specs.Layout.{Rows, no_cell, packed, cell_of, is_zero, tidy_queue, part, laid, queue_of, cells_of, rows_for}
+use Rattle.waiting.specs.Layout.{tidy}
 use Rattle.waiting.proofs.Places.{cells-rows}
 use Rattle.waiting.proofs.Wholes.{Short, part-laid}
 use Rattle.waiting.proofs.Meaning.{AllOwned}

@@ -29,7 +29,8 @@ use Rattle.gate.specs.Layout.{state_with, levels_in, view_of, sound_state, outco
 use Rattle.gate.specs.Runs.{state_after}
 
 of-rows : Type 0
-unfolding waiting.triples waiting.words_of waiting.packed waiting.flat waiting.queues waiting.laid waiting.four_of waiting.rows_for
+unfolding waiting.triples waiting.words_of waiting.packed waiting.flat waiting.queues waiting.laid waiting.four_of
+    waiting.rows_for
     waiting.tidy
 of-rows = Unit {0}
 
@@ -295,7 +296,8 @@ lists =
 made_with_a_list :
     (map (λ (p : ℕ). map (λ (l : Levels). (make_state (making_of p 0 l 7)).answer) lists) profiles
     ≡ replicate 4 (replicate 4 Ready) ++ ((Refused 15 ∷ Refused 15 ∷ Refused 15 ∷ Ready ∷ []) ∷ []))
-    × (map (λ (l : Levels). levels_in (make_state (making_of 5 0 l 7)).state) lists ≡ no_levels ∷ no_levels ∷ no_levels ∷ two ∷ [])
+    × (map (λ (l : Levels). levels_in (make_state (making_of 5 0 l 7)).state) lists ≡ no_levels ∷ no_levels ∷ no_levels ∷ two
+    ∷ [])
     × (map (λ (p : ℕ). (make_state (making_of p 2 no_levels 7)).answer) (0 ∷ 5 ∷ 6 ∷ []) ≡ replicate 3 (Refused 1))
 unfolding of_states
 made_with_a_list = (refl, refl, refl)

@@ -27,7 +27,7 @@ unsound s r kind a b c d stamp w u e = rw (w, u, e)
 
 -- a state that was found sound is what a call may be given
 pub found : (s : State) (b : Bool) → Roomy s → b ≡ sound_state s → b ≡ true → Given s
-found s b r e f = record { roomy = r; is_sound_lem = sym e ∙ f }
+found s b r e f = record { roomy = r; judged_sound = sym e ∙ f }
 
 -- a test as a number
 pub told : (s : State) (b t : Bool) → b ≡ sound_state s → b ≡ t → one_if t ≡ one_if (sound_state s)
@@ -70,5 +70,5 @@ module _ (queues came air loads above waits : List ℕ) where
                 above = g.roomy.above;
                 waits = g.roomy.waits;
               };
-          is_sound_lem = ap (λ (x : Head). sound_state (state_with x queues came air loads above waits)) h ∙ g.is_sound_lem;
+          judged_sound = ap (λ (x : Head). sound_state (state_with x queues came air loads above waits)) h ∙ g.judged_sound;
         }

@@ -6,13 +6,11 @@ use borrow.Author.Tests.{eq-eqb}
 use Rattle.rules.specs.Profiles.{within}
 use Rattle.rules.proofs.Cases.{on_cond}
 use Rattle.model.specs.Calls.{reply_of}
-use Rattle.gate.specs.declared.Head.{Head}
 use Rattle.gate.specs.declared.State.{State}
 use Rattle.gate.specs.declared.Outcome.{Outcome}
-use Rattle.gate.specs.Kept.{head_in}
 use Rattle.gate.proofs.Keeping.{wides, narrows, wides_read, narrows_read}
 use Rattle.gate.proofs.Runs.{refused_unchanged}
-use Rattle.host.specs.Turns.{Handed, handed_by, call_in, asked, Lent, state_on, Filled, RefusedWritesNothing}
+use Rattle.host.specs.Turns.{Handed, call_in, asked, Lent, state_on, Filled, RefusedWritesNothing}
 
 -- whatever its kind
 unchanged : (s : State) (kind a b c d stamp : ℕ)

@@ -126,7 +126,7 @@ polls_right profile l j p =
 pub host_runs : HostRuns
 host_runs m l r xs h ready done =
     record {
-      sound_state_lem = subst⁻¹ (λ (t : State). sound_state t ≡ true) same run.sound_state_lem;
+      stays_sound = subst⁻¹ (λ (t : State). sound_state t ≡ true) same run.stays_sound;
       claims =
           subst⁻¹ (λ (t : State). Claims m.profile (view_of t) (book_of m xs)) same
           (subst⁻¹ (λ (es : List (Call × Answer)). Claims m.profile (view_of reached) (journal_of (opened m.stamp) es)) told

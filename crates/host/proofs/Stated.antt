@@ -23,7 +23,8 @@ use Rattle.host.proofs.Runs.{host_runs}
 
 of_states : Type 0
 unfolding of_runs waiting.triples waiting.words_of waiting.packed waiting.flat waiting.queues waiting.laid waiting.four_of
-    waiting.rows_for waiting.tidy ledger.packed ledger.tidy sound_state call_on make_state state_after events_on call_in asked answer_in
+    waiting.rows_for waiting.tidy ledger.packed ledger.tidy sound_state call_on make_state state_after events_on call_in asked
+    answer_in
 of_states = Unit {0}
 
 -- rows in which a state lies

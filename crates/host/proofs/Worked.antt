@@ -1,7 +1,6 @@
 -- Kinds, numbers and samples, worked.
-use Prim.Native.Nat.{ℕ}
 use mathlib.Core.Path.{◌≡◌, refl}
-use mathlib.Core.List.{List, [], ◌∷◌}
+use mathlib.Core.List.{[], ◌∷◌}
 use Rattle.rules.specs.Profiles.{within}
 use Rattle.rules.specs.Samples.{good_probes, good_words, no_stray, probe, busy_of}
 use Rattle.model.specs.declared.Answer.TheVariants.{Refused}

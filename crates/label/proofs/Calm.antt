@@ -100,7 +100,7 @@ module _ {load samples ontime : ℕ} (c : Calm by_model load samples ontime) whe
 pub calm_floors : CalmFloors by_model
 calm_floors load samples ontime c =
     record {
-      with_room_lem = λ stamp room accepted some late.
+      room_found = λ stamp room accepted some late.
           goes_with_room ontime (ended c) (short c) stamp some (over c _ (all_after (floor_of c) _ (admitted c) late)) room
           accepted;
       by_itself = λ room stamp accepted some late.

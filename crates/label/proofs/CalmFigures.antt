@@ -19,7 +19,8 @@ use Rattle.label.specs.CalmFigures.{CalmFloorsAre}
 
 -- what the floors are computed with
 unfoldable of_floors : Type 0
-unfolding wanted_by wait_by smoothed_of offset_of duty_of adaptive_wait start_of per_mille factor_of harmonised_wait threshold_at wait_at
+unfolding wanted_by wait_by smoothed_of offset_of duty_of adaptive_wait start_of per_mille factor_of harmonised_wait threshold_at
+    wait_at
     reaches highest_to duty_after worst_duty longest_to calm_wait calm_floor
 of_floors = Unit {0}
 

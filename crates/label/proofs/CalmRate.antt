@@ -71,7 +71,8 @@ module _ {load samples ontime : ℕ} (late : ℕ) (c : Calm by_model load sample
       ))
 
   pub short : late ≤ each
-  short = on_test (λ u. late ≤ cond u (floor_of c + late) share) (always_room profile ontime) (λ e. omega arith) (λ e. omega arith)
+  short = on_test (λ u. late ≤ cond u (floor_of c + late) share) (always_room profile ontime) (λ e. omega arith)
+      (λ e. omega arith)
 
   -- behind a first part of the calls, from wherever the messages are counted
   module _ (ds es : List Call) (e : c.during ≡ ds ++ es) (start : ℕ) where
@@ -103,8 +104,8 @@ module _ {load samples ontime : ℕ} (late : ℕ) (c : Calm by_model load sample
       ),
     )
 
-    pub in_time_lem : InTimeBy once each
-    in_time_lem =
+    pub in_good_time : InTimeBy once each
+    in_good_time =
         split (always_room profile ontime) (λ u. rw u (by_waits_lem u)) (λ u. rw u (by (in_asecond ontime) refl (some_fit u)))
       where
         by : (n : ℕ) → in_asecond ontime ≡ n → 0 < n → InTimeBy second share
@@ -114,7 +115,7 @@ module _ {load samples ontime : ℕ} (late : ℕ) (c : Calm by_model load sample
 pub calm_rate : CalmRate by_model
 calm_rate load samples ontime late c =
     pace_by late (once late c) (each late c) (short late c) (settled c) c.during
-    (λ ds es e. in_time_lem late c ds es e _)
+    (λ ds es e. in_good_time late c ds es e _)
 
 -- so many times so long are over in a time, where that is at most n + 1 times
 times-most : (time n each : ℕ) → time ≤ suc n * each → times_in time each ≤ n
@@ -122,9 +123,9 @@ times-most zero n zero h = omega arith
 times-most zero n (suc each) h = quotient_most 0 n (suc each) (omega (arith, suc-mul n (suc each)))
 times-most (suc time) n each h = quotient_most (suc time - 1) n each (omega arith)
 
-pub calm_messages_lem : CalmMessages by_model
+pub messages_when_calm : CalmMessages by_model
 unfolding messages_by
-calm_messages_lem load samples ontime late time c h long =
+messages_when_calm load samples ontime late time c h long =
     let profile = profile_of c in
     let m = messages_in by_model (settled c) c.during in
     let always = times-most time m (quiet profile + late)
@@ -151,7 +152,7 @@ calm_waits load samples ontime p w s =
     (λ ds es e.
     subst (λ (r : Run). OpensInTime p (once p c) (each p c) (short p c) start (view_at_end r) (journal r))
     (onward_twice (settled c) (asked ∷ []) ds)
-    (in_time_lem p c (asked ∷ ds) es (w.calls ∙ ap (λ (ks : List Call). asked ∷ ks) e) start))
+    (in_good_time p c (asked ∷ ds) es (w.calls ∙ ap (λ (ks : List Call). asked ∷ ks) e) start))
     (polled_obeys p r w.behind s))
 
 -- the calm floor is kept from the offer on

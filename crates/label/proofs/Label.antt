@@ -7,11 +7,11 @@ use Rattle.label.proofs.Reached.{most_reached}
 use Rattle.label.proofs.OnAir.{receiver_hears}
 use Rattle.label.proofs.Site.{together, enough, figures}
 use Rattle.label.proofs.Restarts.{restarts_keep, waiting_restarts}
-use Rattle.label.proofs.Rate.{rate, per_minute_lem, polled_obeys, rate_of_obeying}
+use Rattle.label.proofs.Rate.{rate, each_minute, polled_obeys, rate_of_obeying}
 use Rattle.label.proofs.Priorities.{warnings_go, in_its_turn, waits_at_most, waits_among_others}
 use Rattle.label.proofs.Shorter.{never_longer}
 use Rattle.label.proofs.Calm.{calm_floors}
-use Rattle.label.proofs.CalmRate.{calm_rate, calm_messages_lem, calm_waits, calm_delivery}
+use Rattle.label.proofs.CalmRate.{calm_rate, messages_when_calm, calm_waits, calm_delivery}
 use Rattle.label.proofs.Recovery.{recovers}
 
 pub label_holds : LabelHolds
@@ -27,7 +27,7 @@ label_holds =
       restarts_keep = restarts_keep;
       waiting_restarts = waiting_restarts;
       rate = rate;
-      per_minute_lem = per_minute_lem;
+      each_minute = each_minute;
       polled_obeys = polled_obeys;
       rate_of_obeying = rate_of_obeying;
       enough = enough;
@@ -39,7 +39,7 @@ label_holds =
       never_longer = never_longer;
       calm_floors = calm_floors;
       calm_rate = calm_rate;
-      calm_messages_lem = calm_messages_lem;
+      messages_when_calm = messages_when_calm;
       calm_waits = calm_waits;
       calm_delivery = calm_delivery;
       recovers = recovers;

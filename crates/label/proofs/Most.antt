@@ -204,7 +204,7 @@ most_holds profile w =
           λ r e from.
           subst (λ (l : List Admission). air_in from (from + w) l ≤ most profile w) (its_own profile r e)
           (admitted profile (by_itself profile r e) w from);
-      on_air_lem =
+      heard_on_air =
           λ g r e from.
           subst (λ (l : List Admission). on_air from (from + w) l ≤ most profile w) (its_own profile r e)
           (heard-of g (by_itself profile r e) from);
@@ -223,7 +223,7 @@ together_on_air w g (t ∷ ts) =
     omega (
       arith,
       together_on_air w g ts,
-      (most_holds t.0.making.profile w).on_air_lem g t.0 refl t.1,
+      (most_holds t.0.making.profile w).heard_on_air g t.0 refl t.1,
     )
 
 pub most_by_profile : MostByProfile

@@ -2,7 +2,7 @@
 -- more than is heard. Of the ceiling those d cost 3 d and save 100 d. Of the second, the last d µs of the stretch are left out
 -- again, and in them no more than d is heard, as packets don't overlap.
 use Prim.Native.Nat.{ℕ, zero, suc, ◌+◌, ◌-◌, ◌*◌, ◌≤◌}
-use mathlib.Core.Path.{◌≡◌, refl}
+use mathlib.Core.Path.{◌≡◌, refl, ap, ◌∙◌}
 use mathlib.Core.Bool.{cond, ◌&&◌}
 use mathlib.Core.List.{List, [], ◌∷◌}
 use native.Mathlib.Omega.{arith}
@@ -120,8 +120,16 @@ back from (a ∷ l) h =
       whole =
           λ until f.
           let start : from - (from - a.at) ≡ a.at = omega tested in
-          rw (start, inside a.at until a.at (omega arith) (omega tested))
-          (omega (tested, b.whole until f, wider (from - b.by) until a.at until l (omega tested) (omega arith)));
+          let first : air_in a.at until (a ∷ l) ≡ a.ontime + air_in a.at until l =
+          rw (inside a.at until a.at (omega arith) (omega tested)) refl in
+          let reached : air_in (from - (from - a.at)) until (a ∷ l) ≡ a.ontime + air_in a.at until l =
+          ap (λ (x : ℕ). air_in x until (a ∷ l)) start ∙ first in
+          omega (
+            tested,
+            b.whole until f,
+            wider (from - b.by) until a.at until l (omega tested) (omega arith),
+            reached,
+          );
     }))
 
 ceiling_heard : (l : List Admission) → All Short l → KeepsTheCeiling l
@@ -218,6 +226,7 @@ receiver_hears ss r =
       in_a_second = in_one ss r;
       in_seconds = in_some ss r;
       ceiling = λ c.
-          ceiling_heard (sent_in_all by_model ss) (shorts (sent_in_all by_model ss) (whole ss r)) ((restarts_keep ss r).ceiling c);
+          ceiling_heard (sent_in_all by_model ss) (shorts (sent_in_all by_model ss) (whole ss r))
+          ((restarts_keep ss r).ceiling c);
       one_at_once = λ from w. one_at_once from w (sent_in_all by_model ss) (whole ss r);
     }

@@ -63,6 +63,7 @@ module _ (o : ℕ) where
   placed_all n m (l ∷ ls) h = (λ z. omega arith, placed_all (suc n) m ls (omega arith))
 
   placed_among : (n m : ℕ) (l : Entry) (ls : List Entry) → l.ordinal ≤ o → Placed n m ls → Among l ls → n ≤ m
+  placed_among n m l [] z p x3 = elim x3 [ ]
   placed_among n m l (x ∷ ls) z p (inl e) = p.0 (subst (λ (y : Entry). y.ordinal ≤ o) (sym e) z)
   placed_among n m l (x ∷ ls) z p (inr a) = omega (arith, placed_among (suc n) m l ls z p.1 a)
 

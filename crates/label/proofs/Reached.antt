@@ -67,7 +67,7 @@ module _ (m : Making) (first : List Call) (ready : (make m).answer ≡ Ready) (k
         run = steadily n;
         its_profile = refl;
         admitted = ap (air_in 0 w) all ∙ air_ticks m k period ontime others w n (omega tested) ∙ same;
-        on_air_lem = ap (on_air 0 w) all ∙ heard_ticks m k period ontime others w n (leb-true _ _ h) ∙ same;
+        heard_on_air = ap (on_air 0 w) all ∙ heard_ticks m k period ontime others w n (leb-true _ _ h) ∙ same;
       }
 
 -- the list with the shortest waits, which profile 5 takes and no other looks at

@@ -24,22 +24,22 @@ module _ (every start : ℕ) where
       let k : suc n ≤ n + suc (length xs) = omega arith in
       (omega (arith, suc-mul n every, mul-le-mul_right every k), omega arith)
 
-  in_time_lem : (n last : ℕ) (j : Journal) (es : List (Call × Answer)) → SampledEvery every last j es → j.time ≤ last + every
+  in_good_time : (n last : ℕ) (j : Journal) (es : List (Call × Answer)) → SampledEvery every last j es → j.time ≤ last + every
       → last ≤ start + n * every → (journal_of j es).time ≤ start + suc (n + length (loads_in es)) * every
   unfolding journal_of loads_in
-  in_time_lem n last j [] s g h = let e : suc (n + 0) ≡ suc n = omega arith in rw e (omega (arith, suc-mul n every))
-  in_time_lem n last j (e ∷ es) s g h =
+  in_good_time n last j [] s g h = let e : suc (n + 0) ≡ suc n = omega arith in rw e (omega (arith, suc-mul n every))
+  in_good_time n last j (e ∷ es) s g h =
       let xs = accepted_load e.0 e.1 in
       let t = next n last (fed j e.0 e.1).time xs s.0 h in
       let many : suc (n + length (xs ++ loads_in es)) ≡ suc (n + length xs + length (loads_in es)) =
       omega (arith, length-append xs (loads_in es)) in
-      rw many (in_time_lem (n + length xs) _ (fed j e.0 e.1) es s.1 t.1 t.0)
+      rw many (in_good_time (n + length xs) _ (fed j e.0 e.1) es s.1 t.1 t.0)
 
 pub recovers : Recovers by_model
 recovers every samples r calls s h =
     let n = length (loads_since by_model r calls) in
     let start = (journal r).time in
-    let late = in_time_lem every start 0 start (journal r) (by_model.since r calls) s (omega arith) (omega arith) in
+    let late = in_good_time every start 0 start (journal r) (by_model.since r calls) s (omega arith) (omega arith) in
     let many : suc (0 + n) ≡ suc n = omega arith in
     split (leb samples n) (λ e. omega tested)
     (λ e.

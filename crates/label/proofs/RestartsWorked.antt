@@ -120,4 +120,7 @@ most_kept : (from : ℕ)
     → (air_in from (from + 1000000) (sent_in_all by_model gentle_twice) ≤ most 1 1000000)
     × (on_air from (from + 1000000) (sent_in_all by_model gentle_twice) ≤ most 1 1000000)
 unfolding alike
-most_kept from = ((most_holds 1 1000000).admitted_in_all alike from, (most_holds 1 1000000).on_air_in_all (omega arith) alike from)
+most_kept from = (
+  (most_holds 1 1000000).admitted_in_all alike from,
+  (most_holds 1 1000000).on_air_in_all (omega arith) alike from,
+)

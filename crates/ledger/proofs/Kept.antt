@@ -43,7 +43,8 @@ module _ (profile now : ℕ) (last : Last) (slots : List ℕ) where
   unfolding sound_ledger newest_is
   none-noted e = rw (e, and-false, and-false, and-false)
 
-  pub none-held : is_recent now last ≡ false → sound_ledger profile now last (ledger_of 0 slots) ≡ all_are is_unused (drop 0 slots)
+  pub none-held : is_recent now last ≡ false → sound_ledger profile now last (ledger_of 0 slots)
+      ≡ all_are is_unused (drop 0 slots)
   unfolding sound_ledger tidy padded all_are spaced_out air_of
   none-held e = rw e (and-true (all_are is_unused slots && true) ∙ and-true (all_are is_unused slots))
 

@@ -1,4 +1,3 @@
-pub mod Known
 pub mod Word
 pub mod Walk
 pub mod Moved

@@ -20,7 +20,7 @@ use Rattle.model.proofs.SoundLedger.{test_ledger}
 use Rattle.ledger.specs.declared.Ledger.{Ledger}
 use Rattle.ledger.specs.Layout.{admission, unit, items, ledger_of, packed, Packed, sound_ledger, aged_in, without_oldest}
 use Rattle.ledger.specs.Layout.{put_newest, Movable, Forty, InOrder}
-use Rattle.ledger.proofs.Sound.{InTime, in_time_lem, same_ledger, sound_rules, sound-packed}
+use Rattle.ledger.proofs.Sound.{InTime, in_good_time, same_ledger, sound_rules, sound-packed}
 use Rattle.ledger.proofs.Meaning.{AllFitting, words_of, read_fitting, words_in_time, first_words, items-packed}
 use Rattle.ledger.proofs.Meaning.{packed-forty, dropped, aged_dropped, aged-le, young-young, young_fitting}
 use Rattle.ledger.proofs.Meaning.{noted_in, noted-packed, packed_movable}
@@ -57,7 +57,7 @@ items_fitting base l = read_fitting base (take l.len l.slots)
 packed_in_time : (base : ℕ) (l : Ledger) → Packed base l → InTime base (take l.len l.slots)
 packed_in_time base l t =
     subst⁻¹ (InTime base) (words base l t)
-    (in_time_lem base (words_of base (items base l)) (words_in_time base (items base l) (items_fitting base l)))
+    (in_good_time base (words_of base (items base l)) (words_in_time base (items base l) (items_fitting base l)))
 
 -- without the k oldest, and still of forty places
 pub without-forty : (n k : ℕ) (ws : List ℕ) → Forty ws → Forty (without_oldest n k ws)

@@ -26,12 +26,12 @@ use Rattle.ledger.proofs.Walk.{length_read}
 abbrev pub InTime : (base : ℕ) → List ℕ → Type 0
 InTime base ws = All (λ (w : ℕ). age_in w ≤ base) ws
 
-pub in_time_lem : (base : ℕ) (ws : List ℕ) → all_are (λ (w : ℕ). in_time base w) ws ≡ true → InTime base ws
+pub in_good_time : (base : ℕ) (ws : List ℕ) → all_are (λ (w : ℕ). in_time base w) ws ≡ true → InTime base ws
 unfolding all_are
-in_time_lem base [] h = tt
-in_time_lem base (w ∷ ws) h =
+in_good_time base [] h = tt
+in_good_time base (w ∷ ws) h =
     let b = both (in_time base w) (all_are (λ (x : ℕ). in_time base x) ws) h in
-    (leb-true (age_in w) base b.0, in_time_lem base ws b.1)
+    (leb-true (age_in w) base b.0, in_good_time base ws b.1)
 
 pub words_of_lem : (base : ℕ) (ws : List ℕ) → InTime base ws → map (λ (a : Admission). word_of base a) (read_from base ws) ≡ ws
 words_of_lem base [] h = refl
@@ -54,7 +54,7 @@ module _ (base : ℕ) (l : Ledger) (h : tidy base l ≡ true) where
       leb-true l.len places (both (leb l.len places) (all_are is_unused (drop l.len l.slots)) parts.0).0
 
   pub tidy_in_time : InTime base (take l.len l.slots)
-  tidy_in_time = in_time_lem base (take l.len l.slots) parts.1
+  tidy_in_time = in_good_time base (take l.len l.slots) parts.1
 
   pub tidy-packed : Forty l.slots → Packed base l
   unfolding packed

@@ -34,9 +34,9 @@ unfoldable of_soundness : Type 0
 unfolding packed filled all_are padded tidy sound_ledger spaced_out newest_is air_of within most_ontime ontime_allowed
 of_soundness = Unit {0}
 
-is_sound_lem : sound_ledger 3 1500000 second_was two ≡ true
+judged_sound : sound_ledger 3 1500000 second_was two ≡ true
 unfolding of_soundness
-is_sound_lem = refl
+judged_sound = refl
 
 -- what the functions ask of a ledger: forty places, nothing but what it means, admissions that a sound state had, none after the
 -- end of time, and words that still fit 100,000 µs later

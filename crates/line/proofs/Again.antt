@@ -1,6 +1,6 @@
 -- CLOSED, asked again, of a list: the packet that is picked stays the one that is, as it does in the list's parts.
 use Prim.Native.Nat.{ℕ, ◌≤◌}
-use mathlib.Core.Path.{◌≡◌, ap, sym, ◌∙◌}
+use mathlib.Core.Path.{◌≡◌, sym, ◌∙◌}
 use mathlib.Core.Bool.{true}
 use mathlib.Core.List.{List, [], ◌∷◌}
 use Rattle.rules.proofs.Cases.{clash}

@@ -20,8 +20,8 @@ use Rattle.model.specs.Claims.{view_after, events}
 use Rattle.model.proofs.Orders.{order_more, order_expired, order_back}
 use Rattle.model.proofs.Sound.{test_view, view_test, refreshed-sound}
 use Rattle.model.proofs.KeepsSound.{calls_keep_sound}
-use Rattle.line.specs.Line.{without, picked, list_rules, in_list, Listed}
-use Rattle.line.specs.Same.{of, parted, waiting_as, in_parts, EnginesAgree, PartsAgree, SoundListsAgree}
+use Rattle.line.specs.Line.{picked, list_rules, in_list, Listed}
+use Rattle.line.specs.Same.{of, parted, waiting_as, in_parts, EnginesAgree, SoundListsAgree}
 use Rattle.line.proofs.Alike.{BothChoose, Alike, Tied}
 use Rattle.line.proofs.Alike as alike
 use Rattle.line.proofs.Parts.{Came, Arrived, arrived_without, length-parted, count_column, parted-expired, parted_back}

@@ -5,7 +5,6 @@ pub mod Parts
 pub mod Rules
 pub mod Agree
 pub mod Again
-pub mod Known
 pub mod Packing
 pub mod Steps
 pub mod Expiring

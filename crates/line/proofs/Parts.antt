@@ -2,7 +2,7 @@
 -- a test, and on which of four a priority is.
 use Prim.Native.Nat.{ℕ, zero, suc, ◌+◌, ◌≤◌, ◌<◌}
 use mathlib.Core.Path.{◌≡◌, refl, ap, sym, ◌∙◌, subst⁻¹}
-use mathlib.Core.Bool.{Bool, true, false, cond}
+use mathlib.Core.Bool.{false, cond}
 use mathlib.Core.List.{List, [], ◌∷◌, ◌++◌, append-nil}
 use native.Mathlib.Omega.{arith}
 use lib.Dec.{eqb}
@@ -12,7 +12,7 @@ use Rattle.rules.specs.Profiles.{last_priority}
 use Rattle.rules.proofs.Cases.{split, on_cond}
 use Rattle.rules.proofs.Tests.{tested}
 use Rattle.model.specs.declared.Packet.{Packet}
-use Rattle.model.specs.Packets.{unexpired, without_expired, at_back, Chosen, nothing, chosen}
+use Rattle.model.specs.Packets.{unexpired, without_expired, at_back, nothing, chosen}
 use Rattle.model.specs.Fours.{Four, four, each, column, change, how_many}
 use Rattle.model.specs.Queues.{choice}
 use Rattle.model.proofs.Orders.{InOrder, order_more}

@@ -17,7 +17,7 @@ use Rattle.model.specs.Packets.{limit_rules, in_order, chosen}
 use Rattle.model.specs.Queues.{queue_sound, queue_rules}
 use Rattle.model.specs.Claims.{All}
 use Rattle.model.proofs.Orders.{InOrder, test_order, order_test, order_more}
-use Rattle.model.proofs.SoundQueues.{Own, Queued, test_queued, queued_test}
+use Rattle.model.proofs.SoundQueues.{Own, test_queued, queued_test}
 use Rattle.line.specs.Line.{count_of, goes_before, best, picked, allowed_packet, at_most_five, list_rules}
 use Rattle.line.specs.Same.{of, parted}
 use Rattle.line.proofs.Parts.{by_four, Came, Arrived, count_of_lem, length-parted}

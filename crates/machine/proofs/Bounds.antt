@@ -43,7 +43,8 @@ least_greatest [] = omega arith
 least_greatest (x ∷ xs) = omega (arith, least_le x xs, greatest_ge (max 0 x) xs)
 
 -- the last ten are among the last fifty
-those_of_low : (xs : List ℕ) → drop ((length xs - low_over) - (length xs - most_loads)) (last_of most_loads xs) ≡ last_of low_over xs
+those_of_low : (xs : List ℕ) → drop ((length xs - low_over) - (length xs - most_loads)) (last_of most_loads xs)
+    ≡ last_of low_over xs
 those_of_low xs =
     let n = length xs in
     let e : (n - most_loads) + ((n - low_over) - (n - most_loads)) ≡ n - low_over = omega arith in
@@ -62,7 +63,8 @@ highest-le : (ts : List ℕ) (load n : ℕ) → highest_to ts load n ≤ n
 unfolding highest_to
 highest-le ts load zero = omega arith
 highest-le ts load (suc n) =
-    on_cond (λ k. k ≤ suc n) (reaches load (threshold_at ts (suc n))) (λ e. omega arith) (λ e. omega (arith, highest-le ts load n))
+    on_cond (λ k. k ≤ suc n) (reaches load (threshold_at ts (suc n))) (λ e. omega arith)
+    (λ e. omega (arith, highest-le ts load n))
 
 highest_reached : (ts : List ℕ) (load n : ℕ) → threshold_at ts (highest_to ts load n) ≤ load
 unfolding highest_to threshold_at

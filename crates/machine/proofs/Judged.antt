@@ -143,7 +143,8 @@ pub wait_within : (own : ℕ) (ws : List ℕ) → wait_allowed own ≡ true → 
 unfolding wait_at all_are
 wait_within own ws o a zero = within-true least_listed most_listed own o
 wait_within own [] o a (suc n) = (omega arith, omega arith)
-wait_within own (w ∷ ws) o a (suc zero) = within-true least_listed most_listed w (both (wait_allowed w) (all_are wait_allowed ws) a).0
+wait_within own (w ∷ ws) o a (suc zero) = within-true least_listed most_listed w
+    (both (wait_allowed w) (all_are wait_allowed ws) a).0
 wait_within own (w ∷ ws) o a (suc (suc n)) = wait_within own ws o (both (wait_allowed w) (all_are wait_allowed ws) a).1 (suc n)
 
 judged_good : (l : Levels) → good_list l ≡ true → Good l

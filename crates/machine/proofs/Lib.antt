@@ -1,6 +1,5 @@
 -- Laws of lists, loads and moves, for the proofs of this crate and of those above it; then worked examples.
 pub mod Parts
-pub mod Known
 pub mod Judged
 pub mod Tidying
 pub mod Noted

@@ -9,7 +9,7 @@ use Rattle.rules.specs.Profiles.{within}
 use Rattle.packing.specs.Packing.{filled, all_are, padded}
 use Rattle.machine.specs.declared.Levels.{Levels}
 use Rattle.machine.specs.declared.Moved.{Moved}
-use Rattle.machine.specs.Levels.{levels_of, thresholds, waits, threshold_at, wait_at, wait_of, rising, good_list, bad_list}
+use Rattle.machine.specs.Levels.{levels_of, thresholds, threshold_at, wait_at, wait_of, rising, good_list, bad_list}
 use Rattle.machine.specs.Levels.{sound_list, tidied, none_listed, no_levels}
 use Rattle.machine.specs.Loads.{loads_of, loads, noted, packed, sound_loads, none_held, no_loads}
 use Rattle.machine.specs.Moves.{least_from, greatest_from, least_of, low_of, high_of, reaches, highest_to, highest}
@@ -144,7 +144,8 @@ unfolding within filled padded all_are packed sound_loads none_held
 of-loads = Unit {0}
 
 none-held :
-    map none_held (no_loads ∷ loads_of 1 (replicate 50 0) ∷ loads_of 0 (set (replicate 50 0) 49 1) ∷ []) ≡ true ∷ false ∷ false ∷ []
+    map none_held (no_loads ∷ loads_of 1 (replicate 50 0) ∷ loads_of 0 (set (replicate 50 0) 49 1) ∷ []) ≡ true ∷ false ∷ false
+    ∷ []
 unfolding of-loads
 none-held = refl
 

@@ -20,7 +20,7 @@ use Rattle.model.specs.State.{Status, sound}
 use Rattle.model.specs.Effects.{Result, refreshed, closed, may_send, polled, effect}
 use Rattle.model.specs.Gate.{checks, unless_refused, call, waited, AskedAgain, ClosedAskedAgain}
 use Rattle.model.proofs.Staying.{Staying, queues_stay}
-use Rattle.model.proofs.Closing.{left_of, InTime, in_time_lem, sends_after, left_after, closed_poll, still_sound, small}
+use Rattle.model.proofs.Closing.{left_of, InTime, in_good_time, sends_after, left_after, closed_poll, still_sound, small}
 
 -- d µs behind a stamp, the step is d
 step_later : (stamp d : ℕ) → stamp < stamps → d < stamps → step_of ((stamp + d) % stamps) stamp ≡ d
@@ -76,10 +76,10 @@ module _ {h : Holding} (laws : Staying h) (v : Status h) (stamp n : ℕ) (r : (c
   says later a b u =
       let k = closed_poll v stamp n r in
       let e = still_sound laws v stamp n r in
-      let s = laws.stays first p k.others (first.clock.time + step_of later stamp) e k.goes_next_lem (omega arith) u in
+      let s = laws.stays first p k.others (first.clock.time + step_of later stamp) e k.chosen_next (omega arith) u in
       ap (λ (o : Result h). o.answer) (poll_passes first later e a b)
       ∙ ap (λ (c : Chosen h.Held). (polled (refreshed first later) c).answer) s.1
-      ∙ answers_then first later p s.0 (in_time_lem first e) (small laws v stamp n r)
+      ∙ answers_then first later p s.0 (in_good_time first e) (small laws v stamp n r)
       ∙ ap (λ m. cond (leb m (step_of later stamp)) (Sent p) (Closed (m - step_of later stamp))) k.left
 
   pub asked_again : stamp < stamps
@@ -90,7 +90,7 @@ module _ {h : Holding} (laws : Staying h) (v : Status h) (stamp n : ℕ) (r : (c
       (record {
         packet = p;
         others = k.others;
-        goes_next_lem = k.goes_next_lem;
+        chosen_next = k.chosen_next;
         again = λ d a. subst (Says ((stamp + d) % stamps)) (step_later stamp d b (omega arith)) (says ((stamp + d) % stamps)) a;
       })
 
@@ -112,7 +112,7 @@ module _ {h : Holding} {S : Type 0} (view_of : S → Status h) (is_sound : S →
       record {
         packet = g.packet;
         others = g.others;
-        goes_next_lem = g.goes_next_lem;
+        chosen_next = g.chosen_next;
         again = λ d b t u. (reads (left s stamp) ((stamp + d) % stamps) r.2).1 ∙ g.again d b t u;
       }
 

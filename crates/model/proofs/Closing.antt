@@ -67,9 +67,9 @@ pub record InTime {h : Holding} (v : Status h) : Type 0 where
   pub past : v.last.at ≤ v.clock.time
   pub noted : AllNoted v.control.profile v.clock.time 0 v.ledger
 
-pub in_time_lem : {h : Holding} (v : Status h) → sound v ≡ true → InTime v
+pub in_good_time : {h : Holding} (v : Status h) → sound v ≡ true → InTime v
 unfolding sound
-in_time_lem v e =
+in_good_time v e =
     let r = all_true (status_rules v) e in
     record {
       past = (test_last v.control.profile v.clock.time v.last r.1.1.1.1.0).past;
@@ -133,10 +133,12 @@ left_after v p d t o =
 
 -- a packet may go exactly if nothing is left of either wait; and what is left of the second can be told before anything is
 -- dropped
-pub may_send_lem : (v : View) (p : Packet) → SoundView v → p.ontime ≤ most_air → may_send v p ≡ eqb (max (wait_left v) (air_left v p)) 0
+pub may_send_lem : (v : View) (p : Packet) → SoundView v → p.ontime ≤ most_air → may_send v p
+    ≡ eqb (max (wait_left v) (air_left v p)) 0
 unfolding closed
 may_send_lem v p h o =
-    ap₂ (λ a b. a && b) open_now allowed_now ∙ leb-max (wait_left v) (air_left v p) 0 ∙ leb-zero (max (wait_left v) (air_left v p))
+    ap₂ (λ a b. a && b) open_now allowed_now ∙ leb-max (wait_left v) (air_left v p) 0
+    ∙ leb-zero (max (wait_left v) (air_left v p))
   where
     some : ℕ
     some = closed_for v - since_last v
@@ -161,7 +163,8 @@ pub air_same : (ontime profile then now : ℕ) (l : List Admission) → ontime �
 air_same ontime profile then now l o h s =
     same_tests (allowed_from ontime now (young now l) - now) (allowed_from ontime now l - now)
     (λ d. sym (leb_less (allowed_from ontime now (young now l)) now d)
-    ∙ sym (allowed_from_lem ontime profile now 0 now (now + d) (young now l) o (noted-later profile then now 0 l s h) (omega arith))
+    ∙ sym (allowed_from_lem ontime profile now 0 now (now + d) (young now l) o (noted-later profile then now 0 l s h)
+    (omega arith))
     ∙ ap (air_allows ontime) (young-young now (now + d) l (omega arith))
     ∙ allowed_from_lem ontime profile then 0 now (now + d) l o h (omega arith)
     ∙ leb_less (allowed_from ontime now l) now d)
@@ -170,7 +173,7 @@ air_same ontime profile then now l o h s =
 pub record ClosedPoll {h : Holding} (v : Status h) (stamp n : ℕ) : Type 0 where
   pub packet : Packet
   pub others : h.Held
-  pub goes_next_lem : h.next (refreshed v stamp).waiting ≡ chosen packet others
+  pub chosen_next : h.next (refreshed v stamp).waiting ≡ chosen packet others
   pub left : left_of (refreshed v stamp) packet ≡ n
   pub after : (call v (poll stamp)).view ≡ refreshed v stamp
   pub was_sound : sound v ≡ true
@@ -195,7 +198,7 @@ closed_poll {h} v stamp n r =
     (λ m s. clash (cc))
     r in
     let f = k.0 r in
-    record { packet = f.0; others = f.1; goes_next_lem = f.2; left = f.3; after = f.4; was_sound = k.1 }
+    record { packet = f.0; others = f.1; chosen_next = f.2; left = f.3; after = f.4; was_sound = k.1 }
 
 module _ {h : Holding} (laws : Staying h) (v : Status h) (stamp n : ℕ) (r : (call v (poll stamp)).answer ≡ Closed n) where
   abbrev then : Status h
@@ -213,15 +216,15 @@ module _ {h : Holding} (laws : Staying h) (v : Status h) (stamp n : ℕ) (r : (c
       omega (
         arith,
         ontime_le v.control.profile k.packet.ontime
-            (laws.allowed then k.packet k.others still_sound k.goes_next_lem),
+            (laws.allowed then k.packet k.others still_sound k.chosen_next),
       )
 
   pub is_least : (d : ℕ) → is_sent (polled (waited then d) (h.next then.waiting)).answer ≡ leb n d
   is_least d =
       let k = shut_poll in
-      rw k.goes_next_lem
+      rw k.chosen_next
       (is_sent_lem (may_send (waited then d) k.packet) _ _ refl refl
-      ∙ sends_after then (in_time_lem then still_sound) k.packet d small
+      ∙ sends_after then (in_good_time then still_sound) k.packet d small
       ∙ ap (λ m. leb m d) k.left)
 
 pub closed_is_least : ClosedIsLeast in_queues

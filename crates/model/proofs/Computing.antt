@@ -34,7 +34,8 @@ unfolding tidied packed threshold_at least_from greatest_from least_of low_of hi
 of_lists = Unit {0}
 
 unfoldable pub of_samples : Type 0
-unfolding of_numbers good_probes probe busy_of no_stray good_words bad_count load_of wanted_by towards smoothed_of offset_of duty_of
+unfolding of_numbers good_probes probe busy_of no_stray good_words bad_count load_of wanted_by towards smoothed_of offset_of
+    duty_of
     list_kept tuned sampled of_lists
 of_samples = Unit {0}
 
@@ -43,7 +44,8 @@ unfolding of_numbers wait_by adaptive_wait per_mille factor_of harmonised_wait s
 of-waits = Unit {0}
 
 unfoldable pub of_soundness : Type 0
-unfolding of_numbers pairing_sound latest_sound top_of listing_sound tuning_sound sound_control good_list rising sound_list none_listed
+unfolding of_numbers pairing_sound latest_sound top_of listing_sound tuning_sound sound_control good_list rising sound_list
+    none_listed
     sound_loads none_held of_lists in_order queue_sound spaced_out newest_is air_of sound
 of_soundness = Unit {0}
 

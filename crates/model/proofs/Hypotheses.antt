@@ -93,7 +93,8 @@ none-displaced : (view_after (make (making_old 1 0)).view six).counts.displaced 
 unfolding of_runs
 none-displaced = (old_way_displaces_nothing (making_old 1 0) six refl refl).1
 
-always_room_lem : (stamp : ℕ) (o : Offer) → (call (view_after (make (making 1 0)).view six) (offer stamp o)).answer ≡ Refused 8 → ⊥
+always_room_lem : (stamp : ℕ) (o : Offer) → (call (view_after (make (making 1 0)).view six) (offer stamp o)).answer ≡ Refused 8
+    → ⊥
 unfolding of_runs
 always_room_lem = new_way_has_room (making 1 0) six refl refl
 

@@ -74,7 +74,8 @@ four_samples = refl
 urgent : (id ontime lifetime : ℕ) → Offer
 urgent id ontime lifetime = record { id = id; priority = 0; ontime = ontime; lifetime = lifetime }
 
-ages : answers_of (made 1) (offer 0 (urgent 7 1000 60000) ∷ poll 59999 ∷ []) ≡ Taken ∷ Sent (packet_of (urgent 7 1000 60000) 0) ∷ []
+ages : answers_of (made 1) (offer 0 (urgent 7 1000 60000) ∷ poll 59999 ∷ []) ≡ Taken ∷ Sent (packet_of (urgent 7 1000 60000) 0)
+    ∷ []
 unfolding answers_of made urgent
 ages = refl
 

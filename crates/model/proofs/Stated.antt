@@ -133,7 +133,7 @@ module _ (v : View) (stamp n d : ℕ) (p : Packet) (others : Four Packet) (shut 
     second_answer_lem : second_answer ≡ cond (leb n d) (Sent p) (Closed (n - d))
     second_answer_lem =
         let a = closed-asked_again v stamp n low shut in
-        let same : a.packet ≡ p = cc a.goes_next_lem in
+        let same : a.packet ≡ p = cc a.chosen_next in
         subst (λ (q : Packet).
         unexpired (then.clock.time + d) q ≡ true → second_answer ≡ cond (leb n d) (Sent q) (Closed (n - d))) same
         (a.again d forward not_past) (lt-ltb _ _ alive)
@@ -315,7 +315,7 @@ module _ (m : Making) (calls : List Call) (ready : (make m).answer ≡ Ready) wh
 
   -- "A packet of priority 0 still there when the run ends has seen at most k admissions."
   seen_at_most_k : (l : Entry) → Among l j.columns.c0 → length j.admissions - l.earlier ≤ l.above
-  seen_at_most_k l there = omega (arith, all_of _ l j.columns.c0 claims.still_there_lem there)
+  seen_at_most_k l there = omega (arith, all_of _ l j.columns.c0 claims.still_waiting there)
 
   -- "leaves by expiry, by displacement, or no later than with the (k+1)th admission after it came" (W-205)
   gone_in_turn : (l : Entry) (n at : ℕ) → l.packet.priority ≡ 0

@@ -1,7 +1,7 @@
 -- What a second poll asks of the way in which packets wait: that states stay sound, and that the packet which goes next is one
 -- that was allowed and stays the next while it is not expired. Four queues keep it.
 use Prim.Native.Nat.{ℕ, ◌≤◌}
-use mathlib.Core.Path.{◌≡◌, refl, subst}
+use mathlib.Core.Path.{◌≡◌, subst}
 use mathlib.Core.Bool.{true}
 use mathlib.Core.List.{List, [], ◌∷◌}
 use Rattle.rules.specs.Profiles.{ontime_allowed}

@@ -2,15 +2,14 @@
 -- refused meets a sound state, and asks for that wait alone; a refused one asks for none. So calls are alike, and call by call
 -- the runs.
 use Prim.Native.Nat.{ℕ, ◌+◌, ◌-◌, max}
-use mathlib.Core.Path.{◌≡◌, refl, ap, ap₂, sym, ◌∙◌}
-use mathlib.Core.Bool.{Bool, true, cond, not, ◌&&◌}
+use mathlib.Core.Path.{◌≡◌, refl, ap}
+use mathlib.Core.Bool.{true, cond, not, ◌&&◌}
 use mathlib.Core.List.{List, [], ◌∷◌}
 use lib.Dec.{ltb, eqb}
 use borrow.Author.Tests.{not-false, eqb-true}
-use Rattle.rules.specs.Profiles.{profile4}
 use Rattle.rules.specs.Refusals.{first_of}
 use Rattle.rules.specs.Wait.{start_of}
-use Rattle.rules.proofs.Cases.{split, on_test}
+use Rattle.rules.proofs.Cases.{split}
 use Rattle.rules.proofs.Refusals.{of_none}
 use Rattle.rules.proofs.Tests.{all_true}
 use Rattle.rules.proofs.Tabled.{waits_alike}
@@ -25,7 +24,7 @@ use Rattle.model.specs.Calls.{Call, words, count, offer, poll}
 use Rattle.model.specs.Ledger.{air_allows}
 use Rattle.model.specs.State.{Status, status_rules, sound}
 use Rattle.model.specs.Effects.{Result, result, refreshed, since_last, closed, air_left, admits, polled, effect}
-use Rattle.model.specs.Gate.{checks, unless_refused, call}
+use Rattle.model.specs.Gate.{checks, call}
 use Rattle.model.specs.Claims.{view_after, events}
 use Rattle.model.specs.Tabled.{tabled_wait_of, tabled_closed, tabled_polled, tabled_call, tabled_after, tabled_events}
 use Rattle.model.specs.Tabled.{GatesAlike}

@@ -12,7 +12,7 @@ use Rattle.model.specs.declared.Answer.{Answer}
 use Rattle.model.specs.declared.Answer.TheVariants.{Taken, Sent, Idle, Closed, Refused}
 use Rattle.model.specs.Calls.{Call, count, poll}
 use Rattle.model.specs.Ledger.{air_of}
-use Rattle.model.specs.State.{View, with_clock, with_control, with_last, with_ledger, sound}
+use Rattle.model.specs.State.{View, with_control, with_ledger, sound}
 use Rattle.model.specs.Gate.{make, call}
 use Rattle.model.specs.Journal.{air_in, last_second}
 use Rattle.model.proofs.Computing.{of_runs}

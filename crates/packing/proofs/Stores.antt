@@ -2,12 +2,13 @@
 -- front, and zeros fill the places behind them, which makes the array of the list without those k.
 use Prim.Native.Nat.{ℕ, zero, suc, ◌+◌, ◌-◌, ◌≤◌, ◌<◌}
 use mathlib.Core.Path.{◌≡◌, refl, ap, sym, ◌∙◌}
-use mathlib.Core.List.{List, [], ◌∷◌, ◌++◌, append-nil}
+use mathlib.Core.List.{List, ◌++◌, append-nil}
 use native.Mathlib.Numerals.{add-one}
 use native.Mathlib.Omega.{arith}
 use lib.ListN.{length, take, drop, get_or, set, replicate, length-append, length-drop, take-append-drop, drop_of_length-le}
 use lib.ListN.{get_or-append}
-use lib.Seq.{take-suc, drop-cons, append_snoc, set_at, length-take-le, take_all, take_at, get_or-append-add, get_or-drop, get_or-take}
+use lib.Seq.{take-suc, drop-cons, append_snoc, set_at, length-take-le, take_all, take_at, get_or-append-add, get_or-drop}
+use lib.Seq.{get_or-take}
 use Rattle.packing.specs.Packing.{filled}
 use Rattle.packing.proofs.Packing.{length-filled}
 

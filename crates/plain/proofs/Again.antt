@@ -37,4 +37,4 @@ told_twice : (s : State) (stamp n d : ℕ) → stamp < 4294967296 → (call_on s
     ≡ cond (leb n d) (Sent p) (Closed (n - d)))
 told_twice s stamp n d a r b c =
     let k = closed-asked_again s stamp n a r in
-    (k.packet, k.others, k.goes_next_lem, λ u. k.again d b c (lt-ltb _ _ u))
+    (k.packet, k.others, k.chosen_next, λ u. k.again d b c (lt-ltb _ _ u))

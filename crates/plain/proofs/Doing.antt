@@ -1,11 +1,11 @@
 -- What the code makes of a state is what the model makes of what it says, laid out: group by group, each from the result of the
 -- function that gave it.
 use Prim.Native.Nat.{ℕ, ◌+◌, ◌-◌, ◌≤◌, ◌<◌}
-use mathlib.Core.Path.{◌≡◌, refl, ap, ap₂, sym, ◌∙◌, subst⁻¹}
+use mathlib.Core.Path.{◌≡◌, ap, ap₂, sym, ◌∙◌, subst⁻¹}
 use mathlib.Core.Bool.{Bool, true, false, cond}
 use mathlib.Core.List.{List, [], ◌∷◌, ◌++◌}
 use native.Mathlib.Omega.{arith}
-use lib.Dec.{leb, eqb}
+use lib.Dec.{eqb}
 use lib.ListN.{length, length-take}
 use borrow.Author.Tests.{le-leb, lt-leb}
 use Rattle.rules.specs.Profiles.{last_priority, room}
@@ -165,7 +165,8 @@ pub advanced_steerable : (s a : State) (stamp : ℕ) → a ≡ state_of (moved (
 advanced_steerable s a stamp e h = subst⁻¹ (λ (x : State). Steerable x.profile x.tuning) e h
 
 pub samples : (s a r : State) (stamp busy probes load : ℕ) → a ≡ state_of (moved (view_of s) stamp) → load ≡ load_of busy probes
-    → r ≡ state_of (with_control (view_of a) (sampled (control_on a) load)) → r ≡ state_of (sampled_by (view_of s) stamp busy probes)
+    → r ≡ state_of (with_control (view_of a) (sampled (control_on a) load)) → r
+    ≡ state_of (sampled_by (view_of s) stamp busy probes)
 samples s a r stamp busy probes load e f k =
     k ∙ ap₂ (λ (v : Listed) (n : ℕ). state_of (with_control v (sampled v.control n))) (advanced_says s a stamp e) f
 

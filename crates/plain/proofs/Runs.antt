@@ -90,7 +90,8 @@ unfolding answers_to offered_to gate-bursts.answers_to gate-bursts.offered_to
 same_to s t records zero h = (refl, h)
 same_to s t records (suc n) h =
     let r = same_to s t records n h in
-    let k = same_record (offered_to s records n) (gate-bursts.offered_to t records n) (record_at records (record_bytes * n)) r.1 in
+    let k = same_record (offered_to s records n) (gate-bursts.offered_to t records n) (record_at records (record_bytes * n))
+    r.1 in
     (ap₂ (λ (a : List ℕ) (b : Answer). a ++ (answer_byte b ∷ [])) r.0 k.0, k.1)
 
 same_bytes : (s : State) (t : gate-state.State) (records answers : List ℕ) → Same s t
@@ -134,7 +135,7 @@ same_moves s t ms h =
       bytes = λ records answers. same_bytes (moved_all s ms) (gate-bursts.moved_all t ms) records answers r.1;
       counts = ap (λ (v : View). v.counts) r.1.says;
       states = r.1.says;
-      sound_state_lem = r.1.here;
+      stays_sound = r.1.here;
     }
 
 -- a poll that is right there is right here

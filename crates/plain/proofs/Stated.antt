@@ -28,7 +28,8 @@ use Rattle.plain.proofs.Refusals.{refused_unchanged, unsound_gets_nine, refused_
 use Rattle.plain.proofs.Runs.{make_agrees}
 
 of_states : Type 0
-unfolding of_runs filled all_are padded packed ledger.packed ledger.tidy count_of best without picked sound_state call_on make_state
+unfolding of_runs filled all_are padded packed ledger.packed ledger.tidy count_of best without picked sound_state call_on
+    make_state
     moved_all all_heard
 of_states = Unit {0}
 

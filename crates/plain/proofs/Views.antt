@@ -99,7 +99,7 @@ pub record Known (s : State) : Type 0 where
   pub ledger_tight : ledger.Packed s.last.at s.ledger
   pub few : s.ledger.len ≤ forty
   pub ordered : ledger.InOrder (ledger.items s.last.at s.ledger)
-  pub in_time_lem : ledger.Timely (ledger.items s.last.at s.ledger)
+  pub in_good_time : ledger.Timely (ledger.items s.last.at s.ledger)
 
 pub known : (s : State) → Given s → Known s
 known s h =
@@ -115,6 +115,6 @@ known s h =
       ledger_tight = lt;
       few = omega (arith, list_length s.last.at s.ledger lt, g.few);
       ordered = record { profile = s.profile; now = now; last = s.last; rules = g.rules };
-      in_time_lem =
+      in_good_time =
           read_timely s.last.at (take s.ledger.len s.ledger.slots) (omega (arith, g.last_past, g.time));
     }

@@ -2,7 +2,7 @@
 -- and each side computes to the other.
 use Prim.Native.Nat.{ℕ}
 use mathlib.Core.Path.{◌≡◌, refl}
-use mathlib.Core.List.{List, [], ◌∷◌, ◌++◌, map}
+use mathlib.Core.List.{[], ◌∷◌, ◌++◌, map}
 use lib.ListN.{replicate}
 use Rattle.packing.specs.Packing.{filled, all_are, padded}
 use Rattle.machine.specs.declared.Levels.{Levels}

@@ -7,7 +7,8 @@ use lib.ListN.{length}
 use Rattle.rules.specs.Refusals.{check, first_of}
 use Rattle.rules.specs.Samples.{good_words}
 use Rattle.records.specs.declared.Record.{Record}
-use Rattle.records.specs.Writing.{sample_record, record_of, argument_checks, place_checks, write_number, unless_refused, log_after}
+use Rattle.records.specs.Writing.{sample_record, record_of, argument_checks, place_checks, write_number, unless_refused}
+use Rattle.records.specs.Writing.{log_after}
 use Rattle.records.specs.Writing.{ShareRecord}
 
 pub share_record : ShareRecord

@@ -24,7 +24,8 @@ no_record log at h = rw (lt-leb (at + record_bytes) (length log) h)
 
 -- two logs that agree on the 16 bytes of a record have the same record there
 pub same_record :
-    (a b : List ℕ) (i j : ℕ) → ((k : ℕ) → k < record_bytes → byte_at a (i + k) ≡ byte_at b (j + k)) → record_at a i ≡ record_at b j
+    (a b : List ℕ) (i j : ℕ) → ((k : ℕ) → k < record_bytes → byte_at a (i + k) ≡ byte_at b (j + k)) → record_at a i
+    ≡ record_at b j
 unfolding record_at four_at two_at
 same_record a b i j h =
     let first : byte_at a i ≡ byte_at b j = rw (add-zero i, add-zero j) at (h 0 (omega arith)) in

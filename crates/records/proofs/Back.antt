@@ -17,7 +17,7 @@ use Rattle.rules.proofs.Cases.{split, clash, on_cond}
 use Rattle.model.specs.Calls.{words, count, offer, poll}
 use Rattle.records.specs.declared.Record.{Record}
 use Rattle.records.specs.Records.{record_bytes, byte_at, two_at, four_at, record_at, Asked, makes, calls, unknown}
-use Rattle.records.specs.Records.{profile_in, probes_in, asked_by}
+use Rattle.records.specs.Records.{probes_in, asked_by}
 use Rattle.records.specs.Buffers.{written}
 use Rattle.records.specs.Writing.{little_endian, bytes_of, record_of, argument_checks, place_checks, write_number, log_after}
 use Rattle.records.specs.Writing.{probes_field, Narrow, Plain, Bytes, sixteen_at, WritesBack, BackExactly}
@@ -58,7 +58,8 @@ module _ (log : List ℕ) (bytes : Bytes log) where
       byte_first 1 (byte_at log p) (byte_at log (p + 1)) (bytes p) ∙ ap (λ (l : List ℕ). byte_at log p ∷ l) (one_of (p + 1))
 
   four-of :
-      (p : ℕ) → little_endian 4 (four_at log p) ≡ byte_at log p ∷ byte_at log (p + 1) ∷ byte_at log (p + 2) ∷ byte_at log (p + 3) ∷ []
+      (p : ℕ) → little_endian 4 (four_at log p) ≡ byte_at log p ∷ byte_at log (p + 1) ∷ byte_at log (p + 2) ∷ byte_at log (p + 3)
+      ∷ []
   unfolding four_at
   four-of p =
       let b₀ = byte_at log p in

@@ -1,7 +1,8 @@
 -- The harmonised wait. With c the load in per mille rounded up, 1,000 c is at least the load, and floor(2,480,000 / c) × c is at
 -- most 2,480,000: so the factor times the load is at least 3,999 × load − 2,480,000,000, for every load at once. Times the
 -- on-time that is the claim, since a wait below the longest is at least the product. The wait lies within its limits, being held.
-use Rattle.std.proofs.Common.{◌≡◌, ℕ, ◌+◌, ◌-◌, ◌*◌, ◌/◌, ◌<◌, ◌≤◌, leb, sym, ap, ◌∙◌, mul-le-mul_right, mul_assoc, add-mul, mul-le-mul_left, mul-add, sub-add_cancel, div-mul-le_self, mul_left_comm, arith, le-leb}
+use Rattle.std.proofs.Common.{◌≡◌, ℕ, ◌+◌, ◌-◌, ◌*◌, ◌/◌, ◌<◌, ◌≤◌, leb, sym, ap, ◌∙◌, mul-le-mul_right, mul_assoc, add-mul}
+use Rattle.std.proofs.Common.{mul-le-mul_left, mul-add, sub-add_cancel, div-mul-le_self, mul_left_comm, arith, le-leb}
 use native.Mathlib.Nat.{mul-sub}
 use borrow.Author.Tests.{lt-leb}
 use Rattle.rules.specs.Profiles.{profile4}

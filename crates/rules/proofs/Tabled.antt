@@ -1,6 +1,7 @@
 -- What the table has at a place is its rule there, by walking the places; and where the factor is 0, what is held is the least
 -- wait. So the waits with the table and with the formula are alike.
-use Rattle.std.proofs.Common.{◌≡◌, ℕ, zero, suc, ◌+◌, ◌*◌, ◌/◌, ◌%◌, ◌<◌, ◌≤◌, leb, List, [], ◌∷◌, get_or, drop, sym, refl, ap, ◌∙◌, zero-add, arith, get_or-drop, le-leb}
+use Rattle.std.proofs.Common.{◌≡◌, ℕ, zero, suc, ◌+◌, ◌*◌, ◌/◌, ◌%◌, ◌<◌, ◌≤◌, leb, List, [], ◌∷◌, get_or, drop, refl, ap, ◌∙◌}
+use Rattle.std.proofs.Common.{zero-add, arith, get_or-drop, le-leb}
 use Rattle.rules.specs.Profiles.{profile4, full_load}
 use Rattle.rules.specs.Duty.{held}
 use Rattle.rules.specs.Harmonised.{per_mille, factor_of, harmonised_wait}

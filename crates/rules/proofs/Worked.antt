@@ -1,6 +1,7 @@
 -- Worked examples of what documents 01 and 02 say of numbers. Each side computes to the other, so a definition that reads a
 -- sentence otherwise fails here.
-use Rattle.std.proofs.Common.{◌≡◌, ℕ, ◌+◌, ◌-◌, ◌*◌, ◌^◌, Bool, true, false, cond, eqb, leb, List, [], ◌∷◌, ◌++◌, map, length, get_or, replicate, ℤ, pos, neg_ℤ, refl, inl, inr, arith}
+use Rattle.std.proofs.Common.{◌≡◌, ℕ, ◌+◌, ◌-◌, ◌*◌, ◌^◌, Bool, true, false, cond, eqb, leb, List, [], ◌∷◌, ◌++◌, map, length}
+use Rattle.std.proofs.Common.{get_or, replicate, ℤ, pos, neg_ℤ, refl, inl, inr, arith}
 use borrow.Author.Tests.{eqb-false}
 use Rattle.rules.specs.declared.Sample.TheVariants.{Busy, Bad}
 use Rattle.rules.specs.Tests.{all_of}
@@ -108,7 +109,8 @@ start_of_the_wait = refl
 -- "loads at most 1,000,000", "level at most 4", "Duty is in parts per 1,000,000,000", "priority above 3", "queues of up to 5
 -- packets", "accepted above 10^15" (W-201), "10^15", "4,294,967,296", "1,000 probes", "12,500 probes" (W-208)
 numbers_of_the_paper :
-    full_load ∷ top_level ∷ whole_duty ∷ last_priority ∷ room ∷ most_offers ∷ end_of_time ∷ stamps ∷ usual_probes ∷ most_probes ∷ []
+    full_load ∷ top_level ∷ whole_duty ∷ last_priority ∷ room ∷ most_offers ∷ end_of_time ∷ stamps ∷ usual_probes ∷ most_probes
+    ∷ []
     ≡ 1000000 ∷ 4 ∷ 1000000000 ∷ 3 ∷ 5 ∷ 1000000000000000 ∷ 1000000000000000 ∷ 4294967296 ∷ 1000 ∷ 12500 ∷ []
 numbers_of_the_paper = refl
 
@@ -274,7 +276,8 @@ most_busy : (last : ℕ) → List ℕ
 most_busy last = replicate 195 (2 ^ 64 - 1) ++ last ∷ []
 
 most_probes_lem :
-    map (sample_of 12500) (most_busy (2 ^ 20 - 1) ∷ most_busy (2 ^ 20) ∷ (most_busy 0 ++ 0 ∷ []) ∷ []) ≡ Busy 12500 ∷ Bad ∷ Bad ∷ []
+    map (sample_of 12500) (most_busy (2 ^ 20 - 1) ∷ most_busy (2 ^ 20) ∷ (most_busy 0 ++ 0 ∷ []) ∷ []) ≡ Busy 12500 ∷ Bad ∷ Bad
+    ∷ []
 unfolding most_busy sample_of good_words good_probes within no_stray busy_of probe
 most_probes_lem = refl
 
@@ -290,7 +293,8 @@ unfolding bad_count good_probes within
 counts = refl
 
 counts_of_probes :
-    bad_count 0 0 ∷ bad_count 1000 0 ∷ bad_count 0 1 ∷ bad_count 1 1 ∷ bad_count 2 1 ∷ bad_count 12500 12500 ∷ bad_count 12501 12500
+    bad_count 0 0 ∷ bad_count 1000 0 ∷ bad_count 0 1 ∷ bad_count 1 1 ∷ bad_count 2 1 ∷ bad_count 12500 12500
+    ∷ bad_count 12501 12500
     ∷ bad_count 0 12501 ∷ []
     ≡ true ∷ true ∷ false ∷ false ∷ true ∷ false ∷ true ∷ true ∷ []
 unfolding bad_count good_probes within

@@ -65,7 +65,8 @@ module _ (profile now : ℕ) (r : Rows) (s : Sized 4 r) where
         own_sound profile now 2 (part 2 r) (part_sized 2 r s (omega arith)),
         own_sound profile now 3 (part 3 r) (part_sized 3 r s (omega arith)),
       )
-      (paired (tidy_queue (part 0 r)) (tidy_queue (part 1 r)) (tidy_queue (part 2 r)) (tidy_queue (part 3 r)) (rules_at 0) (rules_at 1)
+      (paired (tidy_queue (part 0 r)) (tidy_queue (part 1 r)) (tidy_queue (part 2 r)) (tidy_queue (part 3 r)) (rules_at 0)
+      (rules_at 1)
       (rules_at 2) (rules_at 3))
 
   module _ (most : ℕ) where

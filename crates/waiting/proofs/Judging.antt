@@ -93,7 +93,8 @@ module _ (most now : ℕ) (r : Rows) (s : Sized 1 r) where
         ≡ (place_sound most now since (ltb i n) x && fits most now x.arrival (drop (i + 1) (cells r)) (len_in r - (i + 1)))
     split_place =
         e
-        ∙ ap (λ (cs : List Cell). fits most now since cs (len_in r - i)) (next no_cell (cells r) i (omega (arith, length-cells r s))
+        ∙ ap (λ (cs : List Cell). fits most now since cs (len_in r - i))
+        (next no_cell (cells r) i (omega (arith, length-cells r s))
         ∙ ap (λ (y : Cell). y ∷ drop (i + 1) (cells r)) (sym (q ∙ read_at r s i h)))
         ∙ fits_next most now since (len_in r) i x (drop (i + 1) (cells r))
         ∙ ap (λ (m : ℕ). place_sound most now since (ltb i m) x
@@ -109,4 +110,5 @@ module _ (most now : ℕ) (r : Rows) (s : Sized 1 r) where
   unfolding fits
   all_fit since i e h =
       e
-      ∙ ap (λ (cs : List Cell). fits most now since cs (len_in r - i)) (done no_cell (cells r) i (omega (arith, length-cells r s)))
+      ∙ ap (λ (cs : List Cell). fits most now since cs (len_in r - i))
+      (done no_cell (cells r) i (omega (arith, length-cells r s)))

@@ -190,7 +190,8 @@ unmoved r i =
     let lifetime : List ℕ → List ℕ = λ l. set l (a + 2) (get_or ws (a + 2) 0) in
     let ontime : List ℕ → List ℕ = λ l. set l (a + 1) (get_or ws (a + 1) 0) in
     sym (ap₂ (λ (l ts : List ℕ). rows l ts)
-    (ap (λ (l : List ℕ). lifetime (ontime l)) (set-get_or ws a 0) ∙ ap lifetime (set-get_or ws (a + 1) 0) ∙ set-get_or ws (a + 2) 0)
+    (ap (λ (l : List ℕ). lifetime (ontime l)) (set-get_or ws a 0) ∙ ap lifetime (set-get_or ws (a + 1) 0)
+    ∙ set-get_or ws (a + 2) 0)
     (set-get_or r.came i 0))
 
 pub len_sized : (n : ℕ) (r : Rows) → Sized 1 r → Sized 1 (with_len n r)

@@ -39,7 +39,8 @@ tidy-packed r s h =
     let b = both (leb (len_in r) room) (all_are is_zero (drop (len_in r) (cells r))) h in
     let n = leb-true (len_in r) room b.0 in
     rows-cells r s
-    ∙ ap₂ rows_of (sym (length-items r s n)) (padded-filled room no_cell is_zero zero_is (len_in r) (cells r) (length-cells r s) h)
+    ∙ ap₂ rows_of (sym (length-items r s n)) (padded-filled room no_cell is_zero zero_is (len_in r) (cells r) (length-cells r s)
+    h)
 
 -- rows of four queues are their parts one behind the other
 module _ (m : ℕ) (xs : List ℕ) where

@@ -1,0 +1,21 @@
+-- The packet leaves the line and is noted, as the last admission and in the ledger.
+use native.Mathlib.Omega.{arith}
+use Rattle.plain.proofs.Views.{known}
+use Rattle.plain.proofs.Doing.{admitted}
+use Rattle.plain.proofs.State.admit.Goals as goal
+
+pub note-self-requires : goal.note-self-requires
+note-self-requires c =
+    let k = known _ c.requires.given in record {
+      packed = k.ledger_tight;
+      len_lt_forty = c.requires.len_lt_forty;
+      base_le_at = k.groups.last_past;
+      l_value = k.groups.none-aged;
+    }
+
+pub overflow_add-counts : goal.overflow_add-counts
+overflow_add-counts c = let k = known _ c.requires.given in omega (arith, k.sum, k.groups.most)
+
+pub returns : goal.returns
+returns c = admitted c.args.self c.args.p _ _
+    c.remove-self.ensures c.note-self.ensures
