@@ -1,7 +1,7 @@
-# Presscurlew: what can be run. Everything that is made lies below target/.
+# Presscurlew: what can be run. Everything that is made lies below target/, but for what rt keeps in crates/*/out.
 
 ARCHIVES := $(patsubst %,target/staticlib/lib%.a,cstack floats host calllog plainhost)
-PROVED := crates.txt $(shell find crates -name '*.rt' -o -name '*.antt')
+PROVED := crates.txt $(shell find crates -path 'crates/*/out' -prune -o \( -name '*.rt' -o -name '*.antt' \) -print)
 
 help:
 	@echo 'make demo    a trailer in a jam: the gate at work, the verdict, and a picture'
@@ -61,7 +61,7 @@ demo-build:
 ifeq ($(REPLAY),target/bin/replay)
 	@echo 'The program is proved before it is compiled: some minutes the first time (in full: target/demo/proof.log).'
 	@mkdir -p target/demo
-	@{ rt check replay 2>&1; echo $$? >target/demo/status; } | tee target/demo/proof.log | grep --line-buffered '^rt:'; \
+	@{ $(MAKE) target/bin/replay 2>&1; echo $$? >target/demo/status; } | tee target/demo/proof.log | grep --line-buffered '^rt:'; \
 	[ "$$(cat target/demo/status)" = 0 ] || { tail -n 40 target/demo/proof.log; exit 1; }
 else
 	@echo 'The proved program needs the Rattle kit (rt). Without it, the second program answers in its place.'
@@ -143,12 +143,15 @@ doxygen:
 # rt proves a crate before it writes its archive, and a program before it compiles it.
 NEEDS_KIT = @command -v rt >/dev/null || { echo 'make: $@ comes from the Rattle kit, and there is no rt on PATH: install the kit, and put its bin folder there' >&2; exit 1; }
 
+# rt run leaves the program in out/; here it plays a log without a record.
 target/bin/replay: $(PROVED)
 	$(NEEDS_KIT)
-	rt check replay
+	cd crates/replay && rt run </dev/null
+	@mkdir -p target/bin
+	@cp crates/replay/out/replay $@
 
 target/staticlib/lib%.a: $(PROVED)
 	$(NEEDS_KIT)
-	rt staticlib $*
+	package/archive target/staticlib $*
 
 .PHONY: help demo demo-build label picture test bench bench-replay boards doxygen lib install dist measure

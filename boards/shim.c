@@ -3,26 +3,10 @@
  * modules. The C compiler of the board compiles it, so that structs go by value as they do on that board. It has no
  * branch and no arithmetic: a call hands on pointers, and pointers to what it was given.
  *
- * An entry takes a pointer for each struct and each slice, writes its answer to the first one, and keeps nothing.
+ * An entry takes a pointer for each struct, a pointer and a length of 64 bits for each slice, writes its answer to the
+ * first one, and keeps nothing.
  */
 #include "presscurlew_plain.h"
-
-/* A slice of the modules, on every board: the address in the first 8 bytes, the length in the next 8. */
-typedef struct slice {
-    union {
-        const void *first;
-        uint64_t bytes;
-    } at;
-    uint64_t length;
-} slice;
-
-/* An address of 4 bytes fills half of its place: the other half is 0, and nothing reads it. */
-static inline slice slice_of(const void *first, size_t length) {
-    slice whole = {{.bytes = 0}, length};
-
-    whole.at.first = first;
-    return whole;
-}
 
 /*
  * The modules know no header: they read and write bytes at fixed offsets. A compiler that lays a struct out otherwise
@@ -46,8 +30,7 @@ AT(float_answer, duty, 16);
 _Static_assert(_Alignof(presscurlew_gate) == 8 && _Alignof(presscurlew_reply) == 8, "numbers of 64 bits align to 8");
 _Static_assert(_Alignof(presscurlew_plain_turn) == 8, "turns are aligned to 8");
 _Static_assert(_Alignof(presscurlew_float_answer) == 8, "the modules align doubles to 8");
-_Static_assert(sizeof(slice) == 16 && _Alignof(slice) == 8 && offsetof(slice, length) == 8, "slice");
-_Static_assert(sizeof(void *) <= 8 && sizeof(size_t) == sizeof(void *), "an address fits its place in a slice");
+_Static_assert(sizeof(void *) <= 8, "an address fits the place that it has in the modules");
 
 /* The edition. */
 
@@ -90,10 +73,10 @@ void presscurlew_raw_gate_call(presscurlew_reply *out, uint64_t *wide, uint32_t 
 void presscurlew_raw_gate_sound(uint32_t *out, const uint64_t *wide, const uint32_t *narrow, const uint32_t *queues,
                                 const uint64_t *arrivals, const uint32_t *air, const uint32_t *loads,
                                 const uint32_t *thresholds, const uint32_t *waits);
-void presscurlew_raw_busy(uint32_t *out, uint32_t probes, const slice *words);
+void presscurlew_raw_busy(uint32_t *out, uint32_t probes, const uint64_t *words, uint64_t count);
 void presscurlew_raw_gate_burst(uint32_t *out, uint64_t *wide, uint32_t *narrow, uint32_t *queues, uint64_t *arrivals,
                                 uint32_t *air, uint32_t *loads, const uint32_t *thresholds, const uint32_t *waits,
-                                const slice *records, const slice *answers);
+                                const uint8_t *records, uint64_t bytes, uint8_t *answers, uint64_t room);
 
 presscurlew_reply presscurlew_gate_make(uint64_t *wide, uint32_t *narrow, uint32_t *queues, uint64_t *arrivals,
                                         uint32_t *air, uint32_t *loads, uint32_t *thresholds, uint32_t *waits,
@@ -128,9 +111,8 @@ uint32_t presscurlew_gate_sound(const uint64_t *wide, const uint32_t *narrow, co
 
 uint32_t presscurlew_busy(uint32_t probes, const uint64_t *words, size_t count) {
     uint32_t number;
-    slice sample = slice_of(words, count);
 
-    presscurlew_raw_busy(&number, probes, &sample);
+    presscurlew_raw_busy(&number, probes, words, count);
     return number;
 }
 
@@ -138,66 +120,60 @@ uint32_t presscurlew_gate_burst(uint64_t *wide, uint32_t *narrow, uint32_t *queu
                                 uint32_t *loads, const uint32_t *thresholds, const uint32_t *waits,
                                 const uint8_t *records, size_t bytes, uint8_t *answers, size_t room) {
     uint32_t number;
-    slice offers = slice_of(records, bytes), places = slice_of(answers, room);
 
-    presscurlew_raw_gate_burst(&number, wide, narrow, queues, arrivals, air, loads, thresholds, waits, &offers,
-                               &places);
+    presscurlew_raw_gate_burst(&number, wide, narrow, queues, arrivals, air, loads, thresholds, waits, records, bytes,
+                               answers, room);
     return number;
 }
 
 /* The log. */
 
-void presscurlew_raw_write_make(uint32_t *out, uint32_t profile, uint32_t when_full, uint32_t stamp, const slice *log,
-                                uint64_t at);
-void presscurlew_raw_write_sample_words(uint32_t *out, uint32_t probes, const slice *words, uint32_t stamp,
-                                        const slice *log, uint64_t at);
-void presscurlew_raw_write_sample_count(uint32_t *out, uint32_t busy, uint32_t probes, uint32_t stamp, const slice *log,
-                                        uint64_t at);
+void presscurlew_raw_write_make(uint32_t *out, uint32_t profile, uint32_t when_full, uint32_t stamp, uint8_t *log,
+                                uint64_t bytes, uint64_t at);
+void presscurlew_raw_write_sample_words(uint32_t *out, uint32_t probes, const uint64_t *words, uint64_t count,
+                                        uint32_t stamp, uint8_t *log, uint64_t bytes, uint64_t at);
+void presscurlew_raw_write_sample_count(uint32_t *out, uint32_t busy, uint32_t probes, uint32_t stamp, uint8_t *log,
+                                        uint64_t bytes, uint64_t at);
 void presscurlew_raw_write_offer(uint32_t *out, uint32_t id, uint32_t priority, uint32_t ontime, uint32_t lifetime,
-                                 uint32_t stamp, const slice *log, uint64_t at);
-void presscurlew_raw_write_poll(uint32_t *out, uint32_t stamp, const slice *log, uint64_t at);
+                                 uint32_t stamp, uint8_t *log, uint64_t bytes, uint64_t at);
+void presscurlew_raw_write_poll(uint32_t *out, uint32_t stamp, uint8_t *log, uint64_t bytes, uint64_t at);
 
 uint32_t presscurlew_write_make(uint32_t profile, uint32_t when_full, uint32_t stamp, uint8_t *log, size_t bytes,
                                 size_t at) {
     uint32_t refusal;
-    slice room = slice_of(log, bytes);
 
-    presscurlew_raw_write_make(&refusal, profile, when_full, stamp, &room, at);
+    presscurlew_raw_write_make(&refusal, profile, when_full, stamp, log, bytes, at);
     return refusal;
 }
 
 uint32_t presscurlew_write_sample_words(uint32_t probes, const uint64_t *words, size_t count, uint32_t stamp,
                                         uint8_t *log, size_t bytes, size_t at) {
     uint32_t refusal;
-    slice sample = slice_of(words, count), room = slice_of(log, bytes);
 
-    presscurlew_raw_write_sample_words(&refusal, probes, &sample, stamp, &room, at);
+    presscurlew_raw_write_sample_words(&refusal, probes, words, count, stamp, log, bytes, at);
     return refusal;
 }
 
 uint32_t presscurlew_write_sample_count(uint32_t busy, uint32_t probes, uint32_t stamp, uint8_t *log, size_t bytes,
                                         size_t at) {
     uint32_t refusal;
-    slice room = slice_of(log, bytes);
 
-    presscurlew_raw_write_sample_count(&refusal, busy, probes, stamp, &room, at);
+    presscurlew_raw_write_sample_count(&refusal, busy, probes, stamp, log, bytes, at);
     return refusal;
 }
 
 uint32_t presscurlew_write_offer(uint32_t id, uint32_t priority, uint32_t ontime, uint32_t lifetime, uint32_t stamp,
                                  uint8_t *log, size_t bytes, size_t at) {
     uint32_t refusal;
-    slice room = slice_of(log, bytes);
 
-    presscurlew_raw_write_offer(&refusal, id, priority, ontime, lifetime, stamp, &room, at);
+    presscurlew_raw_write_offer(&refusal, id, priority, ontime, lifetime, stamp, log, bytes, at);
     return refusal;
 }
 
 uint32_t presscurlew_write_poll(uint32_t stamp, uint8_t *log, size_t bytes, size_t at) {
     uint32_t refusal;
-    slice room = slice_of(log, bytes);
 
-    presscurlew_raw_write_poll(&refusal, stamp, &room, at);
+    presscurlew_raw_write_poll(&refusal, stamp, log, bytes, at);
     return refusal;
 }
 
@@ -253,14 +229,14 @@ presscurlew_float_answer presscurlew_float_update(double duty, double smoothed, 
 void presscurlew_raw_plain_make(presscurlew_plain_turn *out, uint32_t profile, uint32_t when_full,
                                 presscurlew_plain_levels *list, uint32_t stamp);
 void presscurlew_raw_plain_sample_words(presscurlew_plain_turn *out, presscurlew_plain_state *state, uint32_t probes,
-                                        const slice *words, uint32_t stamp);
+                                        const uint64_t *words, uint64_t count, uint32_t stamp);
 void presscurlew_raw_plain_sample_count(presscurlew_plain_turn *out, presscurlew_plain_state *state, uint32_t busy,
                                         uint32_t probes, uint32_t stamp);
 void presscurlew_raw_plain_offer(presscurlew_plain_turn *out, presscurlew_plain_state *state, uint32_t id,
                                  uint32_t priority, uint32_t ontime, uint32_t lifetime, uint32_t stamp);
 void presscurlew_raw_plain_poll(presscurlew_plain_turn *out, presscurlew_plain_state *state, uint32_t stamp);
 void presscurlew_raw_plain_burst(presscurlew_plain_burst_turn *out, presscurlew_plain_state *state,
-                                 const slice *records, const slice *answers);
+                                 const uint8_t *records, uint64_t bytes, uint8_t *answers, uint64_t room);
 
 presscurlew_plain_turn presscurlew_plain_make(uint32_t profile, uint32_t when_full, presscurlew_plain_levels list,
                                               uint32_t stamp) {
@@ -273,9 +249,8 @@ presscurlew_plain_turn presscurlew_plain_make(uint32_t profile, uint32_t when_fu
 presscurlew_plain_turn presscurlew_plain_sample_words(presscurlew_plain_state state, uint32_t probes,
                                                       const uint64_t *words, size_t count, uint32_t stamp) {
     presscurlew_plain_turn turn;
-    slice sample = slice_of(words, count);
 
-    presscurlew_raw_plain_sample_words(&turn, &state, probes, &sample, stamp);
+    presscurlew_raw_plain_sample_words(&turn, &state, probes, words, count, stamp);
     return turn;
 }
 
@@ -305,8 +280,7 @@ presscurlew_plain_turn presscurlew_plain_poll(presscurlew_plain_state state, uin
 presscurlew_plain_burst_turn presscurlew_plain_burst(presscurlew_plain_state state, const uint8_t *records,
                                                      size_t bytes, uint8_t *answers, size_t room) {
     presscurlew_plain_burst_turn turn;
-    slice offers = slice_of(records, bytes), places = slice_of(answers, room);
 
-    presscurlew_raw_plain_burst(&turn, &state, &offers, &places);
+    presscurlew_raw_plain_burst(&turn, &state, records, bytes, answers, room);
     return turn;
 }

@@ -15,7 +15,7 @@ fn main() {
             "plainhost: there is no libplainhost.a in {}",
             folder.display()
         );
-        eprintln!("  run `rt staticlib plainhost`, which needs the Rattle kit");
+        eprintln!("  run `make target/staticlib/libplainhost.a`, which needs the Rattle kit");
         exit(1);
     };
     println!("cargo::rustc-link-search=native={}", folder.display());

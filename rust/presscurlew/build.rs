@@ -1,5 +1,5 @@
-//! Links the proved archives for the target: libpresscurlew.a of a release, or the four that it is made of, as `rt staticlib`
-//! writes them in the repository. The environment's PRESSCURLEW_LIB_DIR names the folder, if it is another one.
+//! Links the proved archives for the target: libpresscurlew.a of a release, or the four that it is made of, as `make lib`
+//! has them in the repository. The environment's PRESSCURLEW_LIB_DIR names the folder, if it is another one.
 
 use std::env;
 use std::path::{Path, PathBuf};

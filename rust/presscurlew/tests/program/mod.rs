@@ -1,5 +1,5 @@
-//! The proved program `replay`: `PRESSCURLEW_REPLAY` names it; without that, the one that `rt check replay` builds is
-//! taken.
+//! The proved program `replay`: `PRESSCURLEW_REPLAY` names it; without that, the one of
+//! `make target/bin/replay` is taken.
 
 use std::env;
 use std::io::Write;
@@ -12,7 +12,7 @@ pub fn program() -> PathBuf {
     let path = env::var_os("PRESSCURLEW_REPLAY").map_or(PathBuf::from(built), PathBuf::from);
     assert!(
         path.exists(),
-        "{} is missing: run `rt check replay` first",
+        "{} is missing: run `make target/bin/replay` first",
         path.display()
     );
     path
