@@ -25,17 +25,11 @@ use Rattle.gate.specs.Layout.{view_of, sound_state, outcome, call_on}
 use Rattle.records.specs.declared.Record.{Record}
 use Rattle.records.specs.Records.{record_bytes}
 use Rattle.records.specs.Buffers.{written}
-use Rattle.records.proofs.Asking.{asks_offer}
-use Rattle.calllog.specs.Steps.{step_on}
 use Rattle.calllog.specs.Bursts.{offer_of, offered_by, answer_byte, offered_at, offered_to, answers_to, burst_number, answer_of}
-use Rattle.calllog.proofs.Asking.{step_call}
 
 pub offered_call : (s : State) (rec : Record) → rec.kind ≡ 2 → offered_by s rec ≡ call_on s (offer_of rec)
 unfolding offered_by
 offered_call s rec e = simp e
-
-pub offered_step : (s : State) (rec : Record) → rec.kind ≡ 2 → step_on s rec ≡ offered_by s rec
-offered_step s rec e = step_call s rec _ (asks_offer rec e) ∙ sym (offered_call s rec e)
 
 pub offered_other : (s : State) (rec : Record) → (rec.kind ≡ 2 → ⊥) → offered_by s rec ≡ outcome s (Refused 10)
 unfolding offered_by

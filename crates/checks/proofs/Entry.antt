@@ -6,7 +6,7 @@ use mathlib.Core.List.{List}
 use native.Mathlib.Omega.{arith}
 use borrow.Author.Tests.{ne_eqb}
 use Rattle.rules.specs.Clock.{step_of, goes_back, passes_end}
-use Rattle.rules.specs.declared.Sample.TheVariants.{Busy, Bad}
+use Rattle.std.specs.Prelude.{Some, None}
 use Rattle.rules.specs.Samples.{busy_of, sample_of, good_probes, bad_count}
 use Rattle.rules.specs.Profiles.{within}
 use Rattle.rules.specs.Refusals.{first_of}
@@ -113,7 +113,7 @@ module _ {h : Holding} (e : Engine h) (s : e.State) where
   on_calls : (c d : Call) → call view c ≡ call view d → call_in e s c ≡ call_in e s d
   on_calls c d f = ap (λ (o : Result h). cond (sound_in e s) (outcome_in e s o) (e.outcome s (Refused 9))) f
 
-  pub on_words : (stamp probes : ℕ) (ws : List ℕ) (busy : ℕ) → sample_of probes ws ≡ Busy busy
+  pub on_words : (stamp probes : ℕ) (ws : List ℕ) (busy : ℕ) → sample_of probes ws ≡ Some busy
       → call_in e s (count stamp busy probes) ≡ call_in e s (words stamp probes ws)
   on_words stamp probes ws busy f =
       let r = read_good probes ws busy f in
@@ -121,7 +121,7 @@ module _ {h : Holding} (e : Engine h) (s : e.State) where
       ∙ on_calls (count stamp (busy_of ws probes) probes) (words stamp probes ws) (good_alike view stamp probes ws r.0)
 
   -- a bad one is as bad as one of any bad count
-  pub on_bad_words : (stamp busy many probes : ℕ) (ws : List ℕ) → bad_count busy many ≡ true → sample_of probes ws ≡ Bad
+  pub on_bad_words : (stamp busy many probes : ℕ) (ws : List ℕ) → bad_count busy many ≡ true → sample_of probes ws ≡ None
       → call_in e s (count stamp busy many) ≡ call_in e s (words stamp probes ws)
   on_bad_words stamp busy many probes ws b f =
       on_calls (count stamp busy many) (words stamp probes ws) (bad_alike view stamp busy many probes ws b (read_bad probes ws f))

@@ -1,18 +1,22 @@
 // What both engines ask of plain numbers: which packets, counts and admissions are sound, how the clock
-// moves, what refuses an offer, how long until a packet may go.
+// moves, what refuses an offer, how long until a packet may go. A profile and a way are numbers, as C hands
+// them (`rules`).
 #![tactic(auto)]
 
-ghost use Rattle.std.specs.Prelude.{◌≡◌, ◌≤◌, ◌+◌, ◌*◌, max};
+ghost use Rattle.std.specs.Prelude.{◌≡◌, ◌≤◌, max, IfOk};
 ghost use Rattle.rules.specs.Tests.{all_of};
 ghost use Rattle.rules.specs.Clock.{end_of_time};
-ghost use Rattle.rules.specs.Refusals.{first_of};
+ghost use Rattle.rules.specs.Refusals.{first_of, number_in};
 ghost use Rattle.model.specs.Packets.{packet_of, unexpired, limit_rules};
 ghost use Rattle.model.specs.State.{last_rules, count_rules};
 ghost use Rattle.model.specs.Effects.{stepped};
-ghost use Rattle.model.specs.Gate.{number_checks};
+ghost use Rattle.model.specs.Calls.{making_of};
+ghost use Rattle.model.specs.Gate.{number_checks, make_checks};
 ghost use Rattle.checks.specs.Checks.{left_at, is_zero, clock_number};
 
+use machine::Levels;
 use model::{Clock, Counts, Last, Offer, Packet};
+use rules::refusal::Refusal;
 
 // A call without its stamp. A sample, by words too, comes as its busy count and its probe count.
 #[derive(Clone, Copy)]
@@ -21,14 +25,6 @@ pub enum Request {
     Offered(Offer),
     Poll,
 }
-
-pub const NO_PACKET: Packet = Packet {
-    id: 0,
-    priority: 0,
-    ontime: 0,
-    lifetime: 0,
-    arrival: 0,
-};
 
 // Whether a packet, wherever it waits, is within its limits.
 pub fn is_within_limits(p: Packet, profile: u32, now: u64) -> bool
@@ -43,35 +39,19 @@ pub fn is_within_limits(p: Packet, profile: u32, now: u64) -> bool
     p.arrival <= now
 }
 
-// Two numbers side by side as one of 64 bits: where they lie so, the machine reads them at once.
-fn paired(low: u32, high: u32) -> u64
-    ensures { result ≡ low + 4294967296 * high }
-{
-    low as u64 + 4294967296 * high as u64
-}
-
 // Whether a slot is unused.
 pub fn is_zero(p: Packet) -> bool
     ensures { result ≡ is_zero p }
 {
-    if paired(p.id, p.priority) != 0 {
-        return false;
-    }
-    if paired(p.ontime, p.lifetime) != 0 {
-        return false;
-    }
-    p.arrival == 0
+    p == Packet::default()
 }
 
 // Whether a packet is not expired.
 pub fn is_unexpired(p: Packet, now: u64) -> bool
     ensures { result ≡ unexpired now p }
 {
-    let mut age: u64 = 0;
-    if p.arrival < now {
-        age = now - p.arrival;
-    }
-    age < p.lifetime as u64
+    let age = now.saturating_sub(p.arrival);
+    age < u64::from(p.lifetime)
 }
 
 // Whether the last admission is within its limits.
@@ -125,35 +105,55 @@ pub fn clock_at(c: Clock, stamp: u32) -> Clock
     Clock { time, stamp }
 }
 
-// The clock's refusal of a stamp, 2 or 3, or 0.
-pub fn clock_refusal(given: Clock, stamp: u32) -> u32
+// The clock moved to a stamp, unless the stamp goes back or the time would pass its end.
+pub fn clock_after(given: Clock, stamp: u32) -> Result<Clock, Refusal>
     requires { given.time ≤ end_of_time }
-    ensures { result ≡ clock_number given stamp }
+    ensures number { number_in result ≡ clock_number given stamp }
+    ensures moved { IfOk result (λ clock. clock ≡ stepped given stamp) }
 {
     if rules::goes_back(rules::step(stamp, given.stamp)) {
-        return 2;
+        return Err(Refusal::ClockBack);
     }
     let clock = clock_at(given, stamp);
     if rules::passes_end(clock.time) {
-        return 3;
+        return Err(Refusal::ClockEnd);
     }
-    0
+    Ok(clock)
 }
 
-// The refusal of an offer's own numbers, or 0.
-pub fn offer_refusal(profile: u32, o: Offer) -> u32
-    ensures { result ≡ first_of (number_checks profile o) }
+// What refuses an offer for its own numbers.
+#[tactic(auto, unfolding(rules::specs::Refusals::first_of))]
+pub fn check_offer(profile: u32, o: Offer) -> Result<(), Refusal>
+    ensures { number_in result ≡ first_of (number_checks profile o) }
 {
     if rules::LAST_PRIORITY < o.priority {
-        return 5;
+        return Err(Refusal::BadPriority);
     }
     if !rules::allows_ontime(profile, o.ontime) {
-        return 6;
+        return Err(Refusal::BadOntime);
     }
     if !rules::lies_within(1, rules::LONGEST_LIFETIME, o.lifetime) {
-        return 7;
+        return Err(Refusal::BadLifetime);
     }
-    0
+    Ok(())
+}
+
+// What refuses a make: 1 for a bad profile or a way that is neither 0 nor 1; 15 for a bad list, in profile 5
+// alone. What lies past the list's levels isn't looked at.
+#[tactic(auto, unfolding(rules::specs::Refusals::first_of))]
+pub fn check_making(profile: u32, oldway: u32, list: Levels) -> Result<(), Refusal>
+    ensures { number_in result ≡ first_of (make_checks (making_of profile oldway list 0)) }
+{
+    if !rules::lies_within(rules::FIRST_PROFILE, rules::LAST_PROFILE, profile) {
+        return Err(Refusal::BadProfile);
+    }
+    if 1 < oldway {
+        return Err(Refusal::BadProfile);
+    }
+    if control::is_list_refused(profile, list) {
+        return Err(Refusal::BadList);
+    }
+    Ok(())
 }
 
 // The packet of an offer that comes now.
@@ -179,18 +179,12 @@ pub fn left_of(closed: u64, l: Last, now: u64) -> u64
         return 0;
     }
     let passed = now - l.at;
-    if passed < closed {
-        return closed - passed;
-    }
-    0
+    closed.saturating_sub(passed)
 }
 
-// The greater of two waits.
+// The greater of two waits: the library's, under the name that both engines' edits have.
 pub fn longer(a: u64, b: u64) -> u64
     ensures { result ≡ max a b }
 {
-    if a < b {
-        return b;
-    }
-    a
+    a.max(b)
 }

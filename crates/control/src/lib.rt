@@ -1,5 +1,7 @@
 // What samples steer: how it starts, whether it is sound, what a sample does to it, how long it keeps the
-// gate closed.
+// gate closed. A profile and a tuning are passed apart, as a state has them; a profile is a number and
+// `pairing` a flag, as C hands them (the C interface). What is public here answers for every number, so an
+// enum would ask more.
 #![tactic(auto)]
 
 ghost use Rattle.std.specs.Prelude.{◌≡◌, ◌&&◌, eqb, ◌≤◌};
@@ -16,7 +18,7 @@ use machine::{Levels, Loads};
 // What samples change. `pairing` is 1 while a sample is kept, else 0; `latest` is the latest load in profile
 // 4, else 0.
 #[repr(C)]
-#[derive(Clone, Copy)]
+#[derive(Clone, Copy, Default)]
 pub struct Tuning {
     pub level: u32,
     pub duty: u32,
@@ -31,12 +33,8 @@ pub fn fresh() -> Tuning
     ensures { result ≡ fresh_tuning }
 {
     Tuning {
-        level: 0,
         duty: rules::Profile3::LEAST_DUTY,
-        smoothed: 0,
-        kept: 0,
-        pairing: 0,
-        latest: 0,
+        ..none()
     }
 }
 
@@ -44,14 +42,7 @@ pub fn fresh() -> Tuning
 pub fn none() -> Tuning
     ensures { result ≡ no_tuning }
 {
-    Tuning {
-        level: 0,
-        duty: 0,
-        smoothed: 0,
-        kept: 0,
-        pairing: 0,
-        latest: 0,
-    }
+    Tuning::default()
 }
 
 // Whether a latest load is one that a profile keeps.
@@ -100,8 +91,7 @@ pub fn is_tuning_sound(profile: u32, t: Tuning, listed: usize) -> bool
     if !is_latest_sound(profile, t.latest) {
         return false;
     }
-    let pairing = t.pairing;
-    match pairing {
+    match t.pairing {
         0 => t.kept == 0,
         1 => profile == rules::ADAPTIVE,
         _ => false,
@@ -131,8 +121,7 @@ pub fn is_sound(profile: u32, t: Tuning, levels: Levels, loads: Loads) -> bool
     if !is_tuning_sound(profile, t, levels.len) {
         return false;
     }
-    let slots = loads.slots;
-    is_listing_sound(profile, levels, loads.len, &slots)
+    is_listing_sound(profile, levels, loads.len, &loads.slots)
 }
 
 // Whether a make is refused for its list: in profile 5 alone.
@@ -210,7 +199,7 @@ pub fn closed_after(profile: u32, t: Tuning, listed: u32, ontime: u32) -> u64
     requires ontime_le_ontime { ontime ≤ profile3.limits.ontime }
     ensures { result ≡ closed_with profile t listed ontime }
 {
-    let start = rules::wait_start(profile, ontime) as u64;
-    let wait = wait(profile, t, listed, ontime) as u64;
+    let start = u64::from(rules::wait_start(profile, ontime));
+    let wait = u64::from(wait(profile, t, listed, ontime));
     start + wait
 }

@@ -3,11 +3,12 @@
 #![tactic(auto)]
 
 ghost use Rattle.std.specs.Prelude.{◌≡◌, true};
+ghost use Rattle.std.specs.Bool.{then_some};
 ghost use Rattle.floats.specs.Doubles.{smaller, larger, held_within, compares_as};
 ghost use Rattle.floats.specs.Update.{smoothed_of, offset_of, duty_of, is_load, is_duty};
 ghost use Rattle.floats.specs.Update.{accepted, float_answer, WithinLimits};
 
-// The refusal number.
+// The refusal number: there is one, and C gets it as a number.
 pub const BAD_FLOAT: u32 = 14;
 
 // The limits of the duty.
@@ -15,7 +16,7 @@ pub const LEAST_DUTY: f64 = 0.0006;
 
 pub const MOST_DUTY: f64 = 0.03;
 
-// A smoothed load and a duty, or a refusal number above 0.
+// A smoothed load and a duty, or a refusal number above 0. By hand, a number beside values: it is C's.
 #[repr(C)]
 #[derive(Clone, Copy)]
 pub struct FloatAnswer {
@@ -24,24 +25,19 @@ pub struct FloatAnswer {
     pub duty: f64,
 }
 
-// The smaller of two.
+// The smaller of two. By hand, as `most_of` is: `f64::min` promises either of two that compare equal, and the
+// other one where one is not-a-number; here it is always y.
 fn least_of(x: f64, y: f64) -> f64
     ensures { result ≡ smaller x y }
 {
-    if x < y {
-        return x;
-    }
-    y
+    if x < y { x } else { y }
 }
 
 // The larger of two.
 fn most_of(x: f64, y: f64) -> f64
     ensures { result ≡ larger x y }
 {
-    if y < x {
-        return x;
-    }
-    y
+    if y < x { x } else { y }
 }
 
 // The smoothed load after a pair of samples.
@@ -103,11 +99,25 @@ fn is_duty(x: f64) -> bool
 }
 
 // Whether nothing is refused. All tests are made, with no branch between them: several are then made at once.
+// By hand, four numbers apart: C passes them so, and a struct would be built for two calls alone.
 fn is_accepted(duty: f64, smoothed: f64, kept: f64, new: f64) -> bool
     ensures { result ≡ accepted
         (record { duty = duty; smoothed = smoothed; kept = kept; new = new }) }
 {
     is_duty(duty) & is_load(smoothed) & is_load(kept) & is_load(new)
+}
+
+// The smoothed load and the duty after a pair of samples; none where a number is refused.
+fn updated(duty: f64, smoothed: f64, kept: f64, new: f64) -> Option<(f64, f64)>
+    ensures { result ≡ then_some
+        (accepted (record { duty = duty; smoothed = smoothed; kept = kept; new = new }))
+        (smoothed_of smoothed kept new, duty_of duty (smoothed_of smoothed kept new)) }
+{
+    if !is_accepted(duty, smoothed, kept, new) {
+        return None;
+    }
+    let next = smooth(smoothed, kept, new);
+    Some((next, next_duty(duty, next)))
 }
 
 // One update: the smoothed load and the duty after a pair of samples.
@@ -122,17 +132,16 @@ pub extern "C" fn presscurlew_float_update(
         (record { duty = duty; smoothed = smoothed; kept = kept; new = new }) }
     ensures within { WithinLimits result }
 {
-    if !is_accepted(duty, smoothed, kept, new) {
-        return FloatAnswer {
+    match updated(duty, smoothed, kept, new) {
+        Some((smoothed, duty)) => FloatAnswer {
+            refusal: 0,
+            smoothed,
+            duty,
+        },
+        None => FloatAnswer {
             refusal: BAD_FLOAT,
             smoothed: 0.0,
             duty: 0.0,
-        };
-    }
-    let next = smooth(smoothed, kept, new);
-    FloatAnswer {
-        refusal: 0,
-        smoothed: next,
-        duty: next_duty(duty, next),
+        },
     }
 }

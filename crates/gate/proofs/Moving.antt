@@ -101,7 +101,6 @@ module _ (s : State) (t : Settled s) where
   advanceable =
       let k = known s t in
       record {
-        forty = k.noting.forty;
         time = k.groups.time;
         tight = k.ledger_tight;
         ordered =

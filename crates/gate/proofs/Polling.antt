@@ -4,6 +4,7 @@ use Prim.Native.Nat.{ℕ, ◌<◌, max}
 use mathlib.Core.Path.{◌≡◌, ap, sym, ◌∙◌, subst}
 use mathlib.Core.Bool.{true}
 use mathlib.Core.List.{List}
+use Rattle.std.specs.Prelude.{Option, Some, None}
 use native.Mathlib.Omega.{arith}
 use lib.ListN.{drop}
 use Rattle.machine.specs.Loads.{loads_of}
@@ -23,7 +24,6 @@ use Rattle.checks.proofs.Polling.{idles, closes, sends, room_left, is_call, poll
 use Rattle.ledger.proofs.Settling.{list_length}
 use Rattle.waiting.specs.declared.Cell.{Cell}
 use Rattle.waiting.specs.declared.Found.{Found}
-use Rattle.waiting.specs.declared.Found.TheVariants.{Nothing, At}
 use Rattle.waiting.specs.Layout.{Rows, rows, Held, queues, packet_in, waiting_in, rows_for, found_from}
 use Rattle.waiting.proofs.Meaning.{meant, InQueues, rows-alive, rows_waiting, chooses}
 use Rattle.gate.specs.declared.Head.{Head}
@@ -36,7 +36,7 @@ use Rattle.gate.proofs.Views.{engine, given_of, known}
 use Rattle.gate.proofs.Moving.{assembled, refreshes, cleared_settled, none-expired}
 
 -- where none is expired, what the search found is the model's choice
-finds : (h : Head) (r : Rows) (f : Found) → Held r → still_there h r ≡ waiting_in r
+finds : (h : Head) (r : Rows) (f : Option Found) → Held r → still_there h r ≡ waiting_in r
     → f ≡ found_from h.clock.time 0 (queues r) → (choice (waiting_in r) ≡ meant (waiting_in r) f) × InQueues f
 finds h r f k e g =
     let t = h.clock.time in
@@ -61,7 +61,6 @@ module _ (s : State) (t : Settled s) where
       record {
         held = n.held;
         queue = b;
-        forty = n.noting.forty;
         tight = n.ledger_tight;
         room = r;
         past = n.groups.last_past;
@@ -78,7 +77,7 @@ module _ (s : State) (t : Settled s) where
       assembled a.head a.rows a.ledger (ap (λ (x : Head). loads_of x.loads s.loads) a.head)
 
 -- what serving is given, and what it gives
-module _ (h : Head) (words came air waits : List ℕ) (g : Servable h words came air waits) (f : Found)
+module _ (h : Head) (words came air waits : List ℕ) (g : Servable h words came air waits) (f : Option Found)
     (q : f ≡ found_from h.clock.time 0 (queues (rows words came))) where
   abbrev served : State
   served = state_with h words came air g.loads g.above waits
@@ -90,46 +89,46 @@ module _ (h : Head) (words came air waits : List ℕ) (g : Servable h words came
   found = finds h (rows words came) f (known served t).held g.live q
 
   -- what was found is the choice
-  picked : (x : Found) → f ≡ x → choice (waiting_in (rows words came)) ≡ meant (waiting_in (rows words came)) x
+  picked : (x : Option Found) → f ≡ x → choice (waiting_in (rows words came)) ≡ meant (waiting_in (rows words came)) x
   picked x z = found.0 ∙ ap (meant (waiting_in (rows words came))) z
 
-  pub serves_none : f ≡ Nothing → outcome served Idle ≡ polled_on served
-  serves_none z = idles engine served t.tight t.judged_sound (picked Nothing z)
+  pub serves_none : f ≡ None → outcome served Idle ≡ polled_on served
+  serves_none z = idles engine served t.tight t.judged_sound (picked None z)
 
-  module _ (k : ℕ) (c : Cell) (z : f ≡ At k c) where
+  module _ (x : Found) (z : f ≡ Some x) where
     abbrev rest : Four Packet
-    rest = change k (drop 1) (waiting_in (rows words came))
+    rest = change x.queue (drop 1) (waiting_in (rows words came))
 
-    pub in_four : k < 4
+    pub in_four : x.queue < 4
     in_four = subst InQueues z found.1
 
-    module _ (n : ℕ) (m : n ≡ max (wait_for h waits) (air_for h air c.ontime)) where
-      left : n ≡ max (wait_left (view_of served)) (air_left (view_of served) (packet_in k c))
-      left = left_of_lem served t k c n m
+    module _ (n : ℕ) (m : n ≡ max (wait_for h waits) (air_for h air x.cell.ontime)) where
+      left : n ≡ max (wait_left (view_of served)) (air_left (view_of served) (packet_in x.queue x.cell))
+      left = left_of_lem served t x.queue x.cell n m
 
       pub serves_later : (n ≡ 0 → ⊥) → outcome served (Closed n) ≡ polled_on served
-      serves_later y = closes engine served t.tight t.judged_sound (packet_in k c) rest (picked (At k c) z) n left y
+      serves_later y = closes engine served t.tight t.judged_sound (packet_in x.queue x.cell) rest (picked (Some x) z) n left y
 
       module _ (y : n ≡ 0) where
-        pub may_admit : Admissible h (rows words came) air k
+        pub may_admit : Admissible h (rows words came) air x.queue
         may_admit =
             let room =
-            room_left engine served t.tight t.judged_sound (packet_in k c) rest (picked (At k c) z) n left y g.kept in
+            room_left engine served t.tight t.judged_sound (packet_in x.queue x.cell) rest (picked (Some x) z) n left y g.kept in
             let len = list_length h.last.at (ledger_for h air) (known served t).ledger_tight in
-            admissible served t k in_four (omega (arith, room, len))
+            admissible served t x.queue in_four (omega (arith, room, len))
 
         module _ (h' : Head) (words' came' air' : List ℕ)
-            (a : Admitted h k c.ontime (rows words came) air h' (rows words' came') air') where
+            (a : Admitted h x.queue x.cell.ontime (rows words came) air h' (rows words' came') air') where
           abbrev then : State
           then = state_with h' words' came' air' g.loads g.above waits
 
-          sent : outcome then (Sent (packet_in k c)) ≡ polled_on served
+          sent : outcome then (Sent (packet_in x.queue x.cell)) ≡ polled_on served
           sent =
-              sends engine served t.tight t.judged_sound (packet_in k c) rest (picked (At k c) z) n left y then
-              (leaves served t k c h' words' came' air' a)
+              sends engine served t.tight t.judged_sound (packet_in x.queue x.cell) rest (picked (Some x) z) n left y then
+              (leaves served t x.queue x.cell h' words' came' air' a)
 
-          pub serves_now : (p : Packet) → p ≡ packet_in k c → outcome then (Sent p) ≡ polled_on served
-          serves_now p w = ap (λ (x : Packet). outcome then (Sent x)) w ∙ sent
+          pub serves_now : (p : Packet) → p ≡ packet_in x.queue x.cell → outcome then (Sent p) ≡ polled_on served
+          serves_now p w = ap (λ (q : Packet). outcome then (Sent q)) w ∙ sent
 
           pub sent_settled : Settled then
           sent_settled = given_of then (polled_in served).view (ap (λ (o : Outcome). o.state) sent) g.kept

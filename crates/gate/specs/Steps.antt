@@ -62,10 +62,9 @@ abbrev pub refusals : Head → Four Packet → Request → (stamp : ℕ) → Lis
 refusals h q r stamp =
     clock_checks true h.clock stamp (request_checks h q r (stepped h.clock stamp).time)
 
--- a state laid out from a sound view, its rows long enough
+-- a state laid out from a sound view, the rows of its queues long enough
 pub record Settled (s : State) : Type 0 where
   pub queues : Sized 4 (rows_in s)
-  pub air : ledger.Forty s.air
   pub tight : LaidOut s
   pub judged_sound : sound (view_of s) ≡ true
 
@@ -112,7 +111,6 @@ admissions_in h air = ledger.items h.last.at (ledger_for h air)
 
 -- "first moves the clock"; the ledger without those that have aged
 pub record Advanceable (h : Head) (air : List ℕ) : Type 0 where
-  pub forty : ledger.Forty air
   pub time : h.clock.time ≤ end_of_time
   pub tight : ledger.Packed h.last.at (ledger_for h air)
   pub ordered : ledger.InOrder (admissions_in h air)
@@ -187,7 +185,6 @@ pub record Joined (h : Head) (o : Offer) (r : Rows) (h' : Head) (r' : Rows) : Ty
 
 -- a ledger whose air time can be told
 pub record Noting (base : ℕ) (l : Ledger) : Type 0 where
-  pub forty : ledger.Forty l.slots
   pub few : l.len ≤ places
   pub air : air_of (ledger.items base l) ≤ most_air
   pub in_good_time : ledger.Timely (ledger.items base l)
@@ -212,7 +209,6 @@ air_for h air ontime = allowed_from ontime h.clock.time (admissions_in h air) - 
 pub record Admissible (h : Head) (r : Rows) (air : List ℕ) (k : ℕ) : Type 0 where
   pub held : Held r
   pub queue : k < 4
-  pub forty : ledger.Forty air
   pub tight : ledger.Packed h.last.at (ledger_for h air)
   pub room : h.admissions < places
   pub past : h.last.at ≤ h.clock.time

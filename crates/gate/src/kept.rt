@@ -1,6 +1,7 @@
-// A gate's numbers where a host keeps them: six of 64 bits, and sixteen of 32.
-ghost use Rattle.std.specs.Prelude.{◌≡◌, length};
-ghost use Rattle.gate.specs.Kept.{wide_numbers, narrow_numbers, head_in};
+// A gate's numbers where a host keeps them: six of 64 bits, and sixteen of 32. The C interface has their
+// places, so each is read and written at its own.
+ghost use Rattle.std.specs.Prelude.{◌≡◌};
+ghost use Rattle.gate.specs.Kept.{head_in};
 
 use crate::Head;
 use control::Tuning;
@@ -49,9 +50,7 @@ pub fn head_at(wide: &[u64; 6], narrow: &[u32; 16]) -> Head
 }
 
 // Puts a head there.
-pub fn keep(h: Head, wide: &mut [u64], narrow: &mut [u32])
-    requires wide_len { length wide.old ≡ wide_numbers }
-    requires narrow_len { length narrow.old ≡ narrow_numbers }
+pub fn keep(h: Head, wide: &mut [u64; 6], narrow: &mut [u32; 16])
     ensures { head_in wide.new narrow.new ≡ h }
 {
     wide[0] = h.clock.time;

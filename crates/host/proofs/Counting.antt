@@ -1,12 +1,12 @@
 -- A sample by words is answered as the one by its busy number.
 use Prim.Native.Nat.{ℕ}
-use mathlib.Core.Path.{◌≡◌, ap, sym}
+use mathlib.Core.Path.{◌≡◌, ap}
 use mathlib.Core.Bool.{true, cond}
 use mathlib.Core.List.{List}
 use lib.Dec.{ltb}
 use native.Mathlib.Omega.{arith}
 use borrow.Author.Tests.{lt-ltb}
-use Rattle.rules.specs.declared.Sample.TheVariants.{Busy, Bad}
+use Rattle.std.specs.Option.{unwrap_or}
 use Rattle.rules.specs.Samples.{most_probes, good_words, good_probes, busy_of, sample_of, bad_count}
 use Rattle.rules.proofs.Cases.{split, within-true}
 use Rattle.model.specs.declared.Answer.TheVariants.{Refused}
@@ -14,19 +14,15 @@ use Rattle.model.specs.Queues.{in_queues}
 use Rattle.model.specs.Calls.{Call, words, count}
 use Rattle.model.specs.Effects.{Result}
 use Rattle.model.specs.Gate.{call}
-use Rattle.model.proofs.Sampling.{read_good, read_bad, good_alike, bad_alike}
+use Rattle.model.proofs.Sampling.{good_alike, bad_alike}
 use Rattle.gate.specs.declared.State.{State}
 use Rattle.gate.specs.Layout.{view_of, sound_state, outcome, outcome_of, call_on}
 use Rattle.host.specs.Turns.{busy_number, CountedAlike}
 
 -- the number of what is read
-pub number_good : (probes : ℕ) (ws : List ℕ) (busy : ℕ) → sample_of probes ws ≡ Busy busy → busy ≡ busy_number probes ws
-unfolding busy_number
-number_good probes ws busy e = let r = read_good probes ws busy e in rw r.0 (sym r.1)
-
-pub number_bad : (probes : ℕ) (ws : List ℕ) → sample_of probes ws ≡ Bad → 4294967295 ≡ busy_number probes ws
-unfolding busy_number
-number_bad probes ws e = rw (read_bad probes ws e)
+pub number_read : (probes : ℕ) (ws : List ℕ) → unwrap_or (sample_of probes ws) 4294967295 ≡ busy_number probes ws
+unfolding sample_of busy_number
+number_read probes ws = split (good_words probes ws) (λ g. rw g) (λ g. rw g)
 
 -- so many are busy in no sample
 few : (probes : ℕ) → good_probes probes ≡ true → ltb probes 4294967295 ≡ true

@@ -1,11 +1,13 @@
 // The call log's writer for a C or Rust host: each call's record at a place of a lent buffer (document 02,
-// W-206).
+// W-206). Each is the call of `records::writer` of its name, with what refuses it as a number: C needs
+// exported functions of its own.
 ghost use Rattle.machine.specs.Levels.{no_levels};
 ghost use Rattle.model.specs.Calls.{words, count, offer, poll, making_of};
 ghost use Rattle.records.specs.Records.{makes, calls};
 ghost use Rattle.records.specs.Writing.{Wrote};
 
 use model::Offer;
+use rules::refusal::number_in;
 
 // Writes a make; gives 0, or the refusal, which writes nothing. `oldway` is 1 for the old way, 0 for the new.
 // Its list is left out, and profile 5, which needs one, is refused.
@@ -20,7 +22,7 @@ pub extern "C" fn presscurlew_write_make(
     ensures { Wrote log.old at
         (makes (making_of profile oldway no_levels stamp)) result log.new }
 {
-    records::writer::write_make(profile, oldway, stamp, log, at)
+    number_in(records::writer::write_make(profile, oldway, stamp, log, at))
 }
 
 // Writes a sample of so many probes by words, as the one by its busy count.
@@ -35,7 +37,7 @@ pub extern "C" fn presscurlew_write_sample_words(
     ensures { Wrote log.old at (calls (words stamp probes ws.now)) result
         log.new }
 {
-    records::writer::write_sample_words(probes, ws, stamp, log, at)
+    number_in(records::writer::write_sample_words(probes, ws, stamp, log, at))
 }
 
 // Writes a sample by its busy count, of so many probes.
@@ -49,7 +51,7 @@ pub extern "C" fn presscurlew_write_sample_count(
 ) -> u32
     ensures { Wrote log.old at (calls (count stamp busy probes)) result log.new }
 {
-    records::writer::write_sample_count(busy, probes, stamp, log, at)
+    number_in(records::writer::write_sample_count(busy, probes, stamp, log, at))
 }
 
 // Writes an offer.
@@ -73,7 +75,7 @@ pub extern "C" fn presscurlew_write_offer(
         ontime,
         lifetime,
     };
-    records::writer::write_offer(o, stamp, log, at)
+    number_in(records::writer::write_offer(o, stamp, log, at))
 }
 
 // Writes a poll.
@@ -81,5 +83,5 @@ pub extern "C" fn presscurlew_write_offer(
 pub extern "C" fn presscurlew_write_poll(stamp: u32, log: &mut [u8], at: usize) -> u32
     ensures { Wrote log.old at (calls (poll stamp)) result log.new }
 {
-    records::writer::write_poll(stamp, log, at)
+    number_in(records::writer::write_poll(stamp, log, at))
 }

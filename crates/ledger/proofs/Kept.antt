@@ -15,7 +15,7 @@ use Rattle.model.specs.declared.Admission.{Admission}
 use Rattle.model.specs.declared.Last.{Last}
 use Rattle.model.specs.Ledger.{full_age, spacing, places, air_of, spaced_out, is_recent, newest_is}
 use Rattle.ledger.specs.Layout.{unit, read_from, ledger_of, in_time, tidy, sound_ledger, young_from, in_step, well_kept}
-use Rattle.ledger.proofs.Walk.{length_read}
+use Rattle.ledger.proofs.Word.{length_read}
 use Rattle.ledger.proofs.Sound.{sound-tidy, sound_rules, tidy_in_time}
 use Rattle.ledger.proofs.Newest.{newest_past, newest_word, word_newest}
 use Rattle.ledger.proofs.InStep.{spaced_young, step_spaced}

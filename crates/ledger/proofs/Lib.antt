@@ -1,5 +1,4 @@
 pub mod Word
-pub mod Walk
 pub mod Moved
 pub mod Sound
 pub mod Newest

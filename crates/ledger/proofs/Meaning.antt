@@ -26,8 +26,7 @@ use Rattle.ledger.specs.declared.Ledger.{Ledger}
 use Rattle.ledger.specs.Layout.{admission, unit, age_in, admission_in, word_of, Fitting, read_from, items, ledger_of, in_places}
 use Rattle.ledger.specs.Layout.{packed, Packed, in_time, tidy, aged_in, moved_by, put_newest}
 use Rattle.ledger.specs.Layout.{Movable, added, Timely, Forty}
-use Rattle.ledger.proofs.Word.{age_read, word_read, fitting, word_moved, word_fits}
-use Rattle.ledger.proofs.Walk.{length_read}
+use Rattle.ledger.proofs.Word.{age_read, word_read, fitting, word_moved, word_fits, length_read}
 use Rattle.ledger.proofs.Sound.{InTime, words_of_lem, same_ledger}
 
 -- the words of a list

@@ -19,8 +19,7 @@ use Rattle.model.specs.Ledger.{places, ledger_rules}
 use Rattle.model.proofs.SoundLedger.{SoundLedger, test_ledger}
 use Rattle.ledger.specs.declared.Ledger.{Ledger}
 use Rattle.ledger.specs.Layout.{age_in, word_of, read_from, items, in_places, packed, Packed, in_time, tidy, sound_ledger, Forty}
-use Rattle.ledger.proofs.Word.{read_word}
-use Rattle.ledger.proofs.Walk.{length_read}
+use Rattle.ledger.proofs.Word.{read_word, length_read}
 
 -- words no older than the base has time are those of their admissions
 abbrev pub InTime : (base : ℕ) → List ℕ → Type 0

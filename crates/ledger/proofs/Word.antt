@@ -1,11 +1,14 @@
 -- A word in numbers: its age is the quotient and its on-time the remainder by 4,096, so each is found again, and a gap times
 -- 4,096 adds to the age alone.
 use Prim.Native.Nat.{ℕ, ◌+◌, ◌-◌, ◌*◌, ◌≤◌, ◌<◌}
-use mathlib.Core.Path.{◌≡◌}
+use mathlib.Core.Path.{◌≡◌, ◌∙◌}
+use mathlib.Core.List.{List}
 use native.Mathlib.Omega.{arith}
+use lib.ListN.{length, take, length-map}
+use lib.Seq.{length-take-le}
 use Rattle.model.specs.declared.Admission.{Admission}
 use Rattle.model.specs.Ledger.{full_age}
-use Rattle.ledger.specs.Layout.{unit, age_in, ontime_in, admission_in, word_of, Fitting}
+use Rattle.ledger.specs.Layout.{unit, age_in, ontime_in, admission_in, word_of, Fitting, read_from}
 
 pub age_read : (age ontime : ℕ) → ontime < unit → age_in (age * unit + ontime) ≡ age
 age_read age ontime h = omega arith
@@ -45,3 +48,7 @@ word_moved base now a b h = omega arith
 pub word_fits : (base now : ℕ) (a : Admission) → base ≤ now → Fitting base a → now < a.at + full_age
     → word_of base a + (now - base) * unit ≤ 4294967295
 word_fits base now a b h y = omega (arith, h.0, h.1)
+
+-- as many are read as are asked for
+pub length_read : (base n : ℕ) (ws : List ℕ) → n ≤ length ws → length (read_from base (take n ws)) ≡ n
+length_read base n ws k = length-map (take n ws) (λ (w : ℕ). admission_in base w) ∙ length-take-le n ws k

@@ -7,7 +7,8 @@ pub mod Agree
 pub mod Again
 pub mod Packing
 pub mod Steps
-pub mod Expiring
-pub mod Removing
+pub mod Building
+pub mod Least
+pub mod Priorities
 pub mod Judged
 pub mod Worked

@@ -1,14 +1,14 @@
 -- A line and its list: `items` and `packed` undo each other, and a store behind the packets is one packet more, by the laws of
 -- packing for twenty places. A tidy line with twenty places is packed, since its unused room is zero.
-use Prim.Native.Nat.{ℕ, zero, suc, ◌≤◌, ◌<◌}
+use Prim.Native.Nat.{◌≤◌, ◌<◌}
 use mathlib.Core.Path.{◌≡◌, refl, ap, sym, ◌∙◌}
 use mathlib.Core.Bool.{true}
 use mathlib.Core.List.{List, [], ◌∷◌}
 use native.Mathlib.Omega.{arith}
 use lib.Dec.{leb}
-use lib.ListN.{length, take, drop, length-take, length-append}
+use lib.ListN.{length, drop, length-append}
 use lib.Seq.{length-take-le}
-use borrow.Author.Tests.{leb-true, le-leb, lt-ltb, le-ltb}
+use borrow.Author.Tests.{leb-true, lt-ltb, le-ltb}
 use Rattle.rules.proofs.Cases.{both}
 use Rattle.packing.specs.Packing.{all_are, padded}
 use Rattle.packing.proofs.Packing.{list_filled, set-filled, padded-filled, filled-padded}
@@ -34,18 +34,6 @@ packed-length l h = ap (λ (x : Line). x.len) h
 pub same_line : (l r : Line) → l.len ≡ r.len → l.packets ≡ r.packets → l ≡ r
 same_line l r e f = λ i. record { len = e i; packets = f i }
 
--- a number of places that the list has taken
-take_all : (n : ℕ) (ps : List Packet) → take (length (take n ps)) ps ≡ take n ps
-take_all zero ps = refl
-take_all (suc n) [] = refl
-take_all (suc n) (p ∷ ps) = ap (λ (qs : List Packet). p ∷ qs) (take_all n ps)
-
-pub held_items : (l : Line) (n : ℕ) → n ≡ length (items l) → take n l.packets ≡ items l
-held_items l n e = ap (λ (k : ℕ). take k l.packets) e ∙ take_all l.len l.packets
-
-pub held-within : (l : Line) (n : ℕ) → n ≡ length (items l) → n ≤ length l.packets
-held-within l n e = omega (arith, e, length-take l.len l.packets)
-
 -- one packet more, where a line holds nothing but its packets and has a free place
 packed-pushed : (ps : List Packet) (p : Packet) → length ps < places → pushed p (packed ps) ≡ packed (at_back p ps)
 unfolding packed pushed
@@ -63,10 +51,6 @@ unfolding pushed
 full_stays l p h = rw (le-ltb l.len places h)
 
 -- a tidy line is packed, and a packed one as tidy as its list is short
-pub tidies : (l : Line) → l.len ≤ places → all_are is_zero (drop l.len l.packets) ≡ true → tidy l ≡ true
-unfolding padded
-tidies l h e = rw (le-leb l.len places h, e)
-
 pub tidy_len : (l : Line) → tidy l ≡ true → l.len ≤ places
 unfolding padded
 tidy_len l h = leb-true l.len places (both (leb l.len places) (all_are is_zero (drop l.len l.packets)) h).0

@@ -1,58 +1,30 @@
--- One turn of each walk along the packets of a line: the next packet is counted or not, is better than the best so far or not, is
--- kept or taken away.
-use Prim.Native.Nat.{ℕ, ◌+◌, ◌≤◌, ◌<◌}
-use mathlib.Core.Path.{◌≡◌, refl, sym}
-use mathlib.Core.Bool.{Bool, true, false, cond}
-use mathlib.Core.List.{List, [], ◌∷◌, ◌++◌, append_assoc, append-nil}
-use native.Mathlib.Omega.{arith}
-use lib.ListN.{length, take, drop, get_or}
-use borrow.Author.Tests.{eq-eqb, ne_eqb}
+-- One turn of each walk along the packets of a line: the next packet is kept or not, or is taken away. Then what the chains count
+-- and test.
+use Rattle.std.proofs.Common.{ℕ, ◌+◌, ◌≤◌, ◌<◌, ◌≡◌, refl, sym, ap, Bool, true, false, cond, ◌&&◌, List, [], ◌∷◌, length}
+use Rattle.std.proofs.Common.{drop, get_or, eqb, eq-eqb, ne_eqb, add-one, drop-cons, arith}
+use lib.ListN.{drop_of_length-le}
+use Rattle.std.specs.List.{count_by, list_all}
+use Rattle.std.proofs.lemmas.List.Recursion.{is_count_by}
+use Rattle.packing.specs.Packing.{all_are}
 use Rattle.rules.proofs.Cases.{split}
 use Rattle.model.specs.declared.Packet.{Packet}
-use Rattle.model.specs.Packets.{no_packet, chosen}
-use Rattle.checks.proofs.Walk.{next, done}
-use Rattle.line.specs.Line.{count_of, goes_before, best, goes_next, without, picked}
+use Rattle.model.specs.Packets.{no_packet, unexpired, without_expired, chosen}
+use Rattle.line.specs.Line.{count_of, goes_next, without, picked}
 
-module _ (ps : List Packet) (n i : ℕ) (k : n ≤ length ps) where
-  -- counting
-  pub counted_yes : (priority count : ℕ) → i < n → (get_or ps i no_packet).priority ≡ priority
-      → (count + 1) + count_of priority (drop (i + 1) (take n ps)) ≡ count + count_of priority (drop i (take n ps))
-  unfolding count_of
-  counted_yes priority count h e = rw (next ps n i h k, eq-eqb _ _ e) (omega arith)
+-- counting
+pub counts : (k : ℕ) (ps : List Packet) → count_by (λ p. eqb p.priority k) ps ≡ count_of k ps
+unfolding count_of
+counts k ps =
+    sym (is_count_by (count_of k) (λ p. eqb p.priority k) refl
+    (λ p qs. split (eqb p.priority k) (λ b. rw b (omega arith)) (λ b. rw b refl)) ps)
 
-  pub counted_no : (priority count : ℕ) → i < n → ((get_or ps i no_packet).priority ≡ priority → ⊥)
-      → count + count_of priority (drop (i + 1) (take n ps)) ≡ count + count_of priority (drop i (take n ps))
-  unfolding count_of
-  counted_no priority count h e = rw (next ps n i h k, ne_eqb _ _ e) refl
+-- a test of all
+pub tested : {A : Type 0} (test : A → Bool) (xs : List A) → list_all test xs ≡ all_are test xs
+unfolding all_are
+tested test [] = refl
+tested test (x ∷ xs) = ap (λ b. test x && b) (tested test xs)
 
-  pub counted_all : (priority count : ℕ) → n ≤ i → count ≡ count + count_of priority (drop i (take n ps))
-  unfolding count_of
-  counted_all priority count h = rw (done ps n i h k) (omega arith)
-
-  -- picking
-  pub better : (p q : Packet) → i < n → q ≡ cond (goes_before (get_or ps i no_packet) p) (get_or ps i no_packet) p
-      → best p (drop i (take n ps)) ≡ best q (drop (i + 1) (take n ps))
-  unfolding best
-  better p q h e =
-      rw (next ps n i h k, e)
-      (split (goes_before (get_or ps i no_packet) p) (λ b. rw b) (λ b. rw b))
-
-  pub best-all : (p : Packet) → n ≤ i → best p (drop i (take n ps)) ≡ p
-  unfolding best
-  best-all p h = rw (done ps n i h k) refl
-
--- the packet that goes next is the best of the first and those behind it; where none waits it is blank
-pub next_best : (ps : List Packet) (n : ℕ) → n ≤ length ps → 0 < n
-    → best (get_or ps 0 no_packet) (drop 1 (take n ps)) ≡ goes_next (take n ps)
-unfolding goes_next
-next_best ps n k h = sym (rw (next ps n 0 h k) refl)
-
-pub next_blank : (ps : List Packet) → length ps ≡ 0 → no_packet ≡ goes_next ps
-unfolding goes_next
-next_blank [] e = refl
-next_blank (p ∷ ps) e = absurd (omega arith)
-
--- where packets wait, it is the one picked
+-- where packets wait, the one that goes next is the one picked
 pub picks : (ps : List Packet) → 0 < length ps → picked ps ≡ chosen (goes_next ps) (without (goes_next ps).priority ps)
 unfolding picked goes_next
 picks [] h = absurd (omega arith)
@@ -62,27 +34,47 @@ picks (p ∷ ps) h = refl
 abbrev pub rest : Bool → ℕ → List Packet → List Packet
 rest gone priority ps = cond gone ps (without priority ps)
 
-module _ (ps : List Packet) (n i : ℕ) (k : n ≤ length ps) where
+module _ (ps : List Packet) (i : ℕ) (h : i < length ps) where
   abbrev p : Packet
   p = get_or ps i no_packet
 
-  pub rest_gone : (kept : List Packet) (priority : ℕ) → i < n
-      → (kept ++ (p ∷ [])) ++ rest true priority (drop (i + 1) (take n ps)) ≡ kept ++ rest true priority (drop i (take n ps))
-  rest_gone kept priority h = rw (next ps n i h k) (append_assoc kept (p ∷ []) (drop (i + 1) (take n ps)))
+  -- the packet of this turn, and those behind it
+  pub turn : drop i ps ≡ p ∷ drop (i + 1) ps
+  turn = rw add-one (drop-cons ps i no_packet h)
 
-  pub rest_found : (kept : List Packet) (priority : ℕ) → i < n → p.priority ≡ priority
-      → kept ++ rest true priority (drop (i + 1) (take n ps)) ≡ kept ++ rest false priority (drop i (take n ps))
-  unfolding without
-  rest_found kept priority h e = rw (next ps n i h k, eq-eqb _ _ e) refl
+  pub kept_live : (now : ℕ) → unexpired now p ≡ true
+      → without_expired now (drop i ps) ≡ p ∷ without_expired now (drop (i + 1) ps)
+  unfolding without_expired
+  kept_live now e = rw (turn, e) refl
 
-  pub rest_passed : (kept : List Packet) (priority : ℕ) → i < n → (p.priority ≡ priority → ⊥)
-      → (kept ++ (p ∷ [])) ++ rest false priority (drop (i + 1) (take n ps)) ≡ kept ++ rest false priority (drop i (take n ps))
-  unfolding without
-  rest_passed kept priority h e =
-      rw (next ps n i h k, ne_eqb _ _ e) (append_assoc kept (p ∷ []) (without priority (drop (i + 1) (take n ps))))
+  pub not_kept : (now : ℕ) → unexpired now p ≡ false → without_expired now (drop i ps) ≡ without_expired now (drop (i + 1) ps)
+  unfolding without_expired
+  not_kept now e = rw (turn, e) refl
 
-  pub rest_none : (gone : Bool) (kept : List Packet) (priority : ℕ) → n ≤ i → kept ++ rest gone priority (drop i (take n ps))
-      ≡ kept
+  pub after_gone : (gone : Bool) (priority : ℕ) → gone ≡ true
+      → rest gone priority (drop i ps) ≡ p ∷ rest gone priority (drop (i + 1) ps)
+  after_gone gone priority g = rw g turn
+
+  pub goes_now : (gone : Bool) (priority : ℕ) → gone ≡ false → p.priority ≡ priority
+      → rest gone priority (drop i ps) ≡ rest true priority (drop (i + 1) ps)
   unfolding without
-  rest_none true kept priority h = rw (done ps n i h k) (append-nil kept)
-  rest_none false kept priority h = rw (done ps n i h k) (append-nil kept)
+  goes_now gone priority g e = rw (g, turn, eq-eqb _ _ e) refl
+
+  pub stays : (gone : Bool) (priority : ℕ) → gone ≡ false → (p.priority ≡ priority → ⊥)
+      → rest gone priority (drop i ps) ≡ p ∷ rest gone priority (drop (i + 1) ps)
+  unfolding without
+  stays gone priority g e = rw (g, turn, ne_eqb _ _ e) refl
+
+-- none are left
+module _ (ps : List Packet) (i : ℕ) (h : length ps ≤ i) where
+  pub over : drop i ps ≡ []
+  over = drop_of_length-le ps h
+
+  pub none_live : (now : ℕ) → without_expired now (drop i ps) ≡ []
+  unfolding without_expired
+  none_live now = rw over refl
+
+  pub no-rest : (gone : Bool) (priority : ℕ) → rest gone priority (drop i ps) ≡ []
+  unfolding without
+  no-rest true priority = over
+  no-rest false priority = rw over refl

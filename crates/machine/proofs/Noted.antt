@@ -7,8 +7,9 @@ use mathlib.Core.List.{List, [], ◌∷◌, ◌++◌, append-nil}
 use native.Mathlib.Omega.{arith}
 use lib.Dec.{leb, eqb}
 use lib.ListN.{length, take, drop, set, length-append, length-drop, drop_of_length-le}
-use lib.Seq.{take_all, drop-append-le, set_split, length-take-le}
+use lib.Seq.{take_all, take_at, drop-append-le, set_split, length-take-le}
 use borrow.Author.Tests.{eqb-true, leb-true}
+use Rattle.std.specs.List.{copy_within}
 use Rattle.rules.specs.Profiles.{full_load}
 use Rattle.rules.proofs.Cases.{both, true-within}
 use Rattle.packing.specs.Packing.{filled, all_are, padded, is_unused}
@@ -43,23 +44,29 @@ noted_full s load e =
     let d : length (s ++ (load ∷ [])) - 50 ≡ 1 = omega (arith, length-append s (load ∷ [])) in
     ap (λ (k : ℕ). drop k (s ++ (load ∷ []))) d ∙ drop-append-le 1 s (load ∷ []) (omega arith)
 
+-- all but the oldest moved to the front, and the load in the last place
+moved_front : (s : List ℕ) → length s ≡ 50 → take 49 (copy_within s 1 50 0) ≡ drop 1 s
+moved_front s e =
+    let l : length (drop 1 s) ≡ 49 = omega (arith, length-drop 1 s) in
+    rw (take_all 49 (drop 1 s) (omega arith)) (take_at (drop 1 s) (drop 49 s) 49 l)
+
 set_last : (l : List ℕ) (load : ℕ) → length l ≡ 50 → set l 49 load ≡ take 49 l ++ (load ∷ [])
 set_last l load e =
     set_split l 49 load (omega arith)
     ∙ ap (λ (r : List ℕ). take 49 l ++ (load ∷ r)) (drop_of_length-le l {i = 50} (omega arith))
 
-pub notes_full : (n load : ℕ) (s l : List ℕ) → length s ≡ 50 → 50 ≤ n → take 49 l ≡ drop 1 (take 50 s) → length l ≡ 50
+pub notes_full : (n load : ℕ) (s l : List ℕ) → length s ≡ 50 → 50 ≤ n → l ≡ copy_within s 1 50 0 → length l ≡ 50
     → loads_of 50 (set l 49 load) ≡ packed (noted (take n s) load)
 unfolding packed filled
-notes_full n load s l e h t m =
+notes_full n load s l e h m k =
     let ys = drop 1 s ++ (load ∷ []) in
     let f : noted (take n s) load ≡ ys =
     ap (λ (xs : List ℕ). noted xs load) (take_all n s (omega arith)) ∙ noted_full s load e in
     let g : length ys ≡ 50 = omega (arith, length-append (drop 1 s) (load ∷ []), length-drop 1 s) in
-    let u : take 49 l ≡ drop 1 s = t ∙ ap (drop 1) (take_all 50 s (omega arith)) in
+    let u : take 49 l ≡ drop 1 s = ap (take 49) m ∙ moved_front s e in
     rw (f, g)
     (same _ _ _ _ refl
-    (set_last l load m ∙ ap (λ (r : List ℕ). r ++ (load ∷ [])) u ∙ sym (append-nil ys)))
+    (set_last l load k ∙ ap (λ (r : List ℕ). r ++ (load ∷ [])) u ∙ sym (append-nil ys)))
 
 -- loads in their room are those loads
 pub loads-packed : (xs : List ℕ) → loads (packed xs) ≡ xs

@@ -1,6 +1,6 @@
 -- Parts of arrays as the code lends them: a length past the array reads all of it, the last k of the first n are a part, and a
 -- level's number stands one place before it.
-use Prim.Native.Nat.{ℕ, zero, suc, ◌+◌, ◌-◌, ◌≤◌, ◌<◌, min}
+use Prim.Native.Nat.{ℕ, zero, suc, ◌+◌, ◌-◌, ◌≤◌, ◌<◌, min, max}
 use mathlib.Core.Path.{◌≡◌, refl, ap, sym, ◌∙◌}
 use mathlib.Core.Bool.{true, false}
 use mathlib.Core.List.{List, [], ◌∷◌}
@@ -10,10 +10,12 @@ use lib.Dec.{leb}
 use lib.ListN.{length, take, drop, get_or, length-take, length-drop, drop_of_length-le}
 use lib.Seq.{take-nil, take_all, get_or-take}
 use borrow.Author.Tests.{le-leb, lt-leb, leb-true, leb-false}
+use Rattle.std.specs.List.{fold, reduce}
+use Rattle.std.specs.Option.{unwrap_or}
 use Rattle.rules.proofs.Cases.{split}
 use Rattle.machine.specs.Levels.{most_levels, most_listed, listed, threshold_at, wait_at}
 use Rattle.machine.specs.Loads.{last_of}
-use Rattle.machine.specs.Moves.{least_from, least_of, reaches, highest_to}
+use Rattle.machine.specs.Moves.{least_from, greatest_from, least_of, greatest_of, reaches, highest_to}
 
 module _ (xs : List ℕ) where
   -- so many as there are
@@ -50,16 +52,26 @@ last_part k n xs =
     sym (drop-take (m - k) (m - (m - k)) xs) ∙ ap (λ (i : ℕ). drop (m - k) (take i xs)) e
     ∙ ap (λ (ys : List ℕ). drop (m - k) ys) (take_fewer xs n) ∙ ap (λ (i : ℕ). drop (i - k) (take n xs)) (sym l)
 
--- the least, of none and from the first on
-pub least_none : (xs : List ℕ) → length xs ≡ 0 → least_of xs ≡ 0
-unfolding least_of
-least_none [] h = refl
-least_none (x ∷ xs) h = absurd (omega arith)
+-- the least and the greatest as the library takes them: of none there is neither
+least-fold : (m : ℕ) (xs : List ℕ) → least_from m xs ≡ fold min m xs
+unfolding least_from
+least-fold m [] = refl
+least-fold m (x ∷ xs) = least-fold (min m x) xs
 
-pub least_begun : (xs : List ℕ) → 0 < length xs → least_of xs ≡ least_from (get_or xs 0 0) (drop 1 xs)
+greatest-fold : (m : ℕ) (xs : List ℕ) → greatest_from m xs ≡ fold max m xs
+unfolding greatest_from
+greatest-fold m [] = refl
+greatest-fold m (x ∷ xs) = greatest-fold (max m x) xs
+
+pub least-reduced : (xs : List ℕ) → unwrap_or (reduce min xs) 0 ≡ least_of xs
 unfolding least_of
-least_begun [] h = absurd (omega arith)
-least_begun (x ∷ xs) h = refl
+least-reduced [] = refl
+least-reduced (x ∷ xs) = sym (least-fold x xs)
+
+pub greatest-reduced : (xs : List ℕ) → unwrap_or (reduce max xs) 0 ≡ greatest_of xs
+unfolding greatest_from
+greatest-reduced [] = refl
+greatest-reduced (x ∷ xs) = let e : max 0 x ≡ x = omega arith in rw e (sym (greatest-fold x xs))
 
 -- how many levels are read
 pub length-listed : (n : ℕ) (xs : List ℕ) → length (listed n xs) ≡ min (min n most_levels) (length xs)

@@ -1,22 +1,24 @@
 // The first edition's state machine: its list of levels, its last loads, the level that a sample leaves, and
-// the wait of a level (document 02, W-213). What reads numbers takes them as slices, so that a caller lends
-// its arrays where they lie; methods do the same for the structs. What is public answers for every input, but
-// for `note_load`, which writes and asks for the 50 places that a struct has.
+// the wait of a level (document 02, W-213). What reads numbers takes them as slices, with their count beside,
+// so that a caller lends its arrays where they lie (the C interface); methods do the same for the structs.
+// What is public answers for every input: a slice may have any length, so an array type would ask more. Only
+// `note_load`, which writes, takes the 50 places that a struct has.
 #![tactic(auto)]
 
-ghost use Rattle.std.specs.Prelude.{◌≡◌, ◌≤◌, ◌-◌, min, max, length, take, eqb};
+ghost use Rattle.std.specs.Prelude.{◌≡◌, ◌≤◌, length, take, eqb};
 ghost use Rattle.rules.specs.Profiles.{within};
 ghost use Rattle.packing.specs.Packing.{all_are, filled, is_unused};
 ghost use Rattle.machine.specs.Levels.{listed, levels_of, thresholds, wait_at, wait_of, rising};
 ghost use Rattle.machine.specs.Levels.{good_list, sound_list, tidied, none_listed, no_levels};
 ghost use Rattle.machine.specs.Loads.{loads, loads_of, noted, packed, sound_loads, none_held, no_loads};
-ghost use Rattle.machine.specs.Loads.{most_loads, noted_if};
+ghost use Rattle.machine.specs.Loads.{noted_if};
 ghost use Rattle.machine.specs.Moves.{least_of, greatest_of, low_of, high_of, highest};
 ghost use Rattle.machine.specs.Moves.{level_after, moved_by};
 
-// Up to 8 levels above level 0: how many, the wait of level 0, the threshold and the wait of each above it.
+// Up to 8 levels above level 0: how many, the wait of level 0, the threshold and the wait of each above it. A
+// length beside arrays: the layout is C's, and memory is fixed, with no heap.
 #[repr(C)]
-#[derive(Clone, Copy)]
+#[derive(Clone, Copy, PartialEq, Eq)]
 pub struct Levels {
     pub len: usize,
     pub wait: u32,
@@ -24,7 +26,8 @@ pub struct Levels {
     pub waits: [u32; 8],
 }
 
-// The last loads, the oldest first.
+// The last loads, the oldest first. A type of its own, with its length: C has a name and a layout for it
+// (presscurlew_plain.h).
 #[repr(C)]
 #[derive(Clone, Copy)]
 pub struct Loads {
@@ -41,43 +44,14 @@ pub struct Moved {
 
 pub const MOST_LEVELS: usize = 8;
 
-pub const LEAST_WAIT: u32 = 40000;
+pub const LEAST_WAIT: u32 = rules::Profile5::LEAST_WAIT;
 
-pub const MOST_WAIT: u32 = 1000000;
+pub const MOST_WAIT: u32 = rules::Profile5::MOST_WAIT;
 
 // Low is taken over so many loads, high over so many.
 pub const LOW_OVER: usize = 10;
 
 pub const HIGH_OVER: usize = 50;
-
-// The lesser of two numbers of places.
-fn fewer(a: usize, b: usize) -> usize
-    ensures { result ≡ min a b }
-{
-    if a <= b { a } else { b }
-}
-
-// Where the last n of so many begin.
-fn before_last(n: usize, of: usize) -> usize
-    ensures { result ≡ of - n }
-{
-    if of < n {
-        return 0;
-    }
-    of - n
-}
-
-fn lesser(a: u32, b: u32) -> u32
-    ensures { result ≡ min a b }
-{
-    if a <= b { a } else { b }
-}
-
-fn greater(a: u32, b: u32) -> u32
-    ensures { result ≡ max a b }
-{
-    if a <= b { b } else { a }
-}
 
 // The bits of all numbers together. All are read, with no way out before the end, so that many are read at
 // once.
@@ -85,10 +59,8 @@ fn bits_of(xs: &[u32]) -> u32
     ensures { eqb result 0 ≡ all_are is_unused xs.now }
 {
     let mut bits: u32 = 0;
-    let mut i: usize = 0;
-    while i < xs.len() {
-        bits = bits | xs[i];
-        i += 1;
+    for x in xs {
+        bits |= *x;
     }
     bits
 }
@@ -104,14 +76,7 @@ pub fn are_zero(xs: &[u32]) -> bool
 fn all_lie_within(xs: &[u32], low: u32, high: u32) -> bool
     ensures { result ≡ all_are (within low high) xs.now }
 {
-    let mut i: usize = 0;
-    while i < xs.len() {
-        if !rules::lies_within(low, high, xs[i]) {
-            return false;
-        }
-        i += 1;
-    }
-    true
+    xs.iter().all(|&x| rules::lies_within(low, high, x))
 }
 
 // Whether each number is above the one before it, and the first above 0.
@@ -119,14 +84,11 @@ fn do_rise(xs: &[u32]) -> bool
     ensures { result ≡ rising 0 xs.now }
 {
     let mut before: u32 = 0;
-    let mut i: usize = 0;
-    while i < xs.len() {
-        let x = xs[i];
-        if x <= before {
+    for x in xs {
+        if *x <= before {
             return false;
         }
-        before = x;
-        i += 1;
+        before = *x;
     }
     true
 }
@@ -135,29 +97,14 @@ fn do_rise(xs: &[u32]) -> bool
 fn least(xs: &[u32]) -> u32
     ensures { result ≡ least_of xs.now }
 {
-    if xs.len() == 0 {
-        return 0;
-    }
-    let mut m = xs[0];
-    let mut i: usize = 1;
-    while i < xs.len() {
-        m = lesser(m, xs[i]);
-        i += 1;
-    }
-    m
+    xs.iter().copied().min().unwrap_or(0)
 }
 
 // The greatest of some loads.
 fn greatest(xs: &[u32]) -> u32
     ensures { result ≡ greatest_of xs.now }
 {
-    let mut m: u32 = 0;
-    let mut i: usize = 0;
-    while i < xs.len() {
-        m = greater(m, xs[i]);
-        i += 1;
-    }
-    m
+    xs.iter().copied().max().unwrap_or(0)
 }
 
 // Zeros behind the first n places.
@@ -165,11 +112,7 @@ fn clear(n: usize, xs: &mut [u32])
     requires { n ≤ length xs.old }
     ensures { xs.new ≡ filled (length xs.old) 0 (take n xs.old) }
 {
-    let mut i = n;
-    while i < xs.len() {
-        xs[i] = 0;
-        i += 1;
-    }
+    xs[n..].fill(0);
 }
 
 // Whether a list of n levels keeps BAD-LIST's rules; what lies past the n is not looked at.
@@ -221,7 +164,7 @@ pub fn wait(n: usize, own: u32, waits: &[u32], level: u32) -> u32
         return own;
     }
     let k = level as usize - 1;
-    let m = fewer(fewer(n, MOST_LEVELS), waits.len());
+    let m = n.min(MOST_LEVELS).min(waits.len());
     if m <= k {
         return MOST_WAIT;
     }
@@ -235,7 +178,7 @@ pub fn are_loads_sound(n: usize, slots: &[u32]) -> bool
     if HIGH_OVER < n {
         return false;
     }
-    let m = fewer(n, slots.len());
+    let m = n.min(slots.len());
     if !are_zero(&slots[m..]) {
         return false;
     }
@@ -254,8 +197,8 @@ pub fn are_loads_none(n: usize, slots: &[u32]) -> bool
 
 // A load noted behind n others, in their place, unless `more` is 0; of 50 the oldest goes. How many there are
 // then.
-pub fn note_load(n: usize, slots: &mut [u32], load: u32, more: usize) -> usize
-    requires { length slots.old ≡ most_loads }
+// `more` stays a number: the definition `noted_if`, which the clause names, takes one.
+pub fn note_load(n: usize, slots: &mut [u32; 50], load: u32, more: usize) -> usize
     ensures { loads_of result slots.new ≡ noted_if more load (loads_of n slots.old) }
 {
     if more == 0 {
@@ -266,11 +209,7 @@ pub fn note_load(n: usize, slots: &mut [u32], load: u32, more: usize) -> usize
         slots[n] = load;
         return n + 1;
     }
-    let mut i: usize = 0;
-    while i < 49 {
-        slots[i] = slots[i + 1];
-        i += 1;
-    }
+    slots.copy_within(1.., 0);
     slots[49] = load;
     50
 }
@@ -279,33 +218,31 @@ pub fn note_load(n: usize, slots: &mut [u32], load: u32, more: usize) -> usize
 pub fn low(n: usize, slots: &[u32]) -> u32
     ensures { result ≡ low_of (take n slots.now) }
 {
-    let m = fewer(n, slots.len());
+    let m = n.min(slots.len());
     if m < LOW_OVER {
         return 0;
     }
-    let from = before_last(LOW_OVER, m);
-    least(&slots[from..m])
+    least(&slots[m - LOW_OVER..m])
 }
 
 // The greatest of the last 50 of n loads, or of those there are.
 pub fn high(n: usize, slots: &[u32]) -> u32
     ensures { result ≡ high_of (take n slots.now) }
 {
-    let m = fewer(n, slots.len());
-    let from = before_last(HIGH_OVER, m);
-    greatest(&slots[from..m])
+    let m = n.min(slots.len());
+    greatest(&slots[m.saturating_sub(HIGH_OVER)..m])
 }
 
-// The highest of n levels whose threshold a load reaches.
+// The highest of n levels whose threshold a load reaches. Searched from the top, and not by halves: it
+// answers for a list that does not rise, too (`AlwaysHighest`).
 pub fn highest_reached(n: usize, above: &[u32], load: u32) -> u32
     ensures { result ≡ highest (listed n above.now) load }
 {
-    let mut k = fewer(fewer(n, MOST_LEVELS), above.len());
-    while k > 0 {
-        if above[k - 1] <= load {
-            return k as u32;
+    let m = n.min(MOST_LEVELS).min(above.len());
+    for k in (0..m).rev() {
+        if above[k] <= load {
+            return k as u32 + 1;
         }
-        k -= 1;
     }
     0
 }
@@ -316,17 +253,11 @@ pub fn level_after<'a>(n: usize, above: &'a [u32], held: usize, slots: &'a [u32]
 {
     let up = highest_reached(n, above, low(held, slots));
     let down = highest_reached(n, above, high(held, slots));
-    if level < up {
-        return up;
-    }
-    if down < level {
-        return down;
-    }
-    level
+    level.clamp(up, down)
 }
 
 impl Levels {
-    // No levels.
+    // No levels. By hand: `[0; 8]` shows the room, which a derived `Default` would hide.
     pub fn none() -> Levels
         ensures { result ≡ no_levels }
     {
@@ -342,75 +273,53 @@ impl Levels {
     pub fn is_good(self) -> bool
         ensures { result ≡ good_list self }
     {
-        let above = self.above;
-        let waits = self.waits;
-        is_list_good(self.len, self.wait, &above, &waits)
+        is_list_good(self.len, self.wait, &self.above, &self.waits)
     }
 
     // Whether the list is a sound state's.
     pub fn is_sound(self) -> bool
         ensures { result ≡ sound_list self }
     {
-        let above = self.above;
-        let waits = self.waits;
-        is_list_sound(self.len, self.wait, &above, &waits)
+        is_list_sound(self.len, self.wait, &self.above, &self.waits)
     }
 
-    // Whether there is no list, as in other profiles. It is read number by number and not lent, so that a
-    // caller's is read where it lies.
+    // Whether there is no list, as in other profiles.
     pub fn is_none(self) -> bool
         ensures { result ≡ none_listed self }
     {
-        let above = self.above;
-        let waits = self.waits;
-        let low = (above[0] | above[1] | above[2] | above[3])
-            | (waits[0] | waits[1] | waits[2] | waits[3]);
-        let high = (above[4] | above[5] | above[6] | above[7])
-            | (waits[4] | waits[5] | waits[6] | waits[7]);
-        let bits = (low | high) | self.wait;
-        self.len as u64 | bits as u64 == 0
+        self == Levels::none()
     }
 
     // The list as a state keeps it: the levels that it has, and zeros behind them.
-    pub fn tidy(self) -> Levels
+    pub fn tidy(mut self) -> Levels
         ensures { result ≡ tidied self }
     {
-        let n = fewer(self.len, MOST_LEVELS);
-        let mut above = self.above;
-        let mut waits = self.waits;
-        clear(n, &mut above);
-        clear(n, &mut waits);
-        Levels {
-            len: n,
-            wait: self.wait,
-            above,
-            waits,
-        }
+        let n = self.len.min(MOST_LEVELS);
+        self.len = n;
+        clear(n, &mut self.above);
+        clear(n, &mut self.waits);
+        self
     }
 
     // The wait of a level.
     pub fn wait(self, level: u32) -> u32
         ensures { result ≡ wait_of self level }
     {
-        let waits = self.waits;
-        wait(self.len, self.wait, &waits, level)
+        wait(self.len, self.wait, &self.waits, level)
     }
 
     // The highest level whose threshold a load reaches.
     pub fn highest(self, load: u32) -> u32
         ensures { result ≡ highest (thresholds self) load }
     {
-        let above = self.above;
-        highest_reached(self.len, &above, load)
+        highest_reached(self.len, &self.above, load)
     }
 
     // The level after the loads held, the sample's among them.
     pub fn level_after(self, held: Loads, level: u32) -> u32
         ensures { result ≡ level_after (thresholds self) (loads held) level }
     {
-        let above = self.above;
-        let slots = held.slots;
-        level_after(self.len, &above, held.len, &slots, level)
+        level_after(self.len, &self.above, held.len, &held.slots, level)
     }
 
     // What a sample leaves: its load is noted, and counts.
@@ -426,7 +335,7 @@ impl Levels {
 }
 
 impl Loads {
-    // No loads.
+    // No loads. By hand, as with levels.
     pub fn none() -> Loads
         ensures { result ≡ no_loads }
     {
@@ -440,40 +349,35 @@ impl Loads {
     pub fn is_sound(self) -> bool
         ensures { result ≡ sound_loads self }
     {
-        let slots = self.slots;
-        are_loads_sound(self.len, &slots)
+        are_loads_sound(self.len, &self.slots)
     }
 
     // Whether there are no loads.
     pub fn is_none(self) -> bool
         ensures { result ≡ none_held self }
     {
-        let slots = self.slots;
-        are_loads_none(self.len, &slots)
+        are_loads_none(self.len, &self.slots)
     }
 
     // The loads with one more; of 50 the oldest goes.
-    pub fn note(self, load: u32) -> Loads
+    pub fn note(mut self, load: u32) -> Loads
         ensures { result ≡ packed (noted (loads self) load) }
     {
-        let mut slots = self.slots;
-        let len = note_load(self.len, &mut slots, load, 1);
-        Loads { len, slots }
+        self.len = note_load(self.len, &mut self.slots, load, 1);
+        self
     }
 
     // The least of the last 10, 0 before there are ten.
     pub fn low(self) -> u32
         ensures { result ≡ low_of (loads self) }
     {
-        let slots = self.slots;
-        low(self.len, &slots)
+        low(self.len, &self.slots)
     }
 
     // The greatest of the last 50, or of those there are.
     pub fn high(self) -> u32
         ensures { result ≡ high_of (loads self) }
     {
-        let slots = self.slots;
-        high(self.len, &slots)
+        high(self.len, &self.slots)
     }
 }

@@ -4,7 +4,7 @@ use Prim.Native.Nat.{ℕ}
 use mathlib.Core.Path.{◌≡◌, refl, ap, sym, ◌∙◌}
 use mathlib.Core.Bool.{Bool, true, false, cond, not}
 use mathlib.Core.List.{List}
-use Rattle.rules.specs.declared.Sample.TheVariants.{Busy, Bad}
+use Rattle.std.specs.Prelude.{Some, None}
 use Rattle.rules.specs.Clock.{step_of, goes_back, passes_end}
 use Rattle.rules.specs.Refusals.{first_of}
 use Rattle.rules.specs.Samples.{busy_of, good_words, sample_of, sample_number, bad_count}
@@ -68,15 +68,15 @@ unfolding first_of sample_of sample_number
 words_number v stamp probes ws = split (good_words probes ws) (λ e. rw e refl) (λ e. rw e refl)
 
 -- what reading a sample says
-pub read_good : (probes : ℕ) (ws : List ℕ) (busy : ℕ) → sample_of probes ws ≡ Busy busy
+pub read_good : (probes : ℕ) (ws : List ℕ) (busy : ℕ) → sample_of probes ws ≡ Some busy
     → (good_words probes ws ≡ true) × (busy_of ws probes ≡ busy)
 unfolding sample_of
 read_good probes ws busy e =
     split (good_words probes ws)
-    (λ g. let f : Busy (busy_of ws probes) ≡ Busy busy = rw g at e in (g, cc))
-    (λ g. let f : Bad ≡ Busy busy = rw g at e in clash (cc))
+    (λ g. let f : Some (busy_of ws probes) ≡ Some busy = rw g at e in (g, cc))
+    (λ g. let f : None ≡ Some busy = rw g at e in clash (cc))
 
-pub read_bad : (probes : ℕ) (ws : List ℕ) → sample_of probes ws ≡ Bad → good_words probes ws ≡ false
+pub read_bad : (probes : ℕ) (ws : List ℕ) → sample_of probes ws ≡ None → good_words probes ws ≡ false
 unfolding sample_of
 read_bad probes ws e =
-    split (good_words probes ws) (λ g. let f : Busy (busy_of ws probes) ≡ Bad = rw g at e in clash (cc)) (λ g. g)
+    split (good_words probes ws) (λ g. let f : Some (busy_of ws probes) ≡ None = rw g at e in clash (cc)) (λ g. g)

@@ -4,15 +4,23 @@
 use Prim.Native.Nat.{ℕ, zero, suc, ◌+◌, ◌-◌, ◌≤◌, ◌<◌}
 use mathlib.Core.Path.{◌≡◌, refl, ap, sym, ◌∙◌}
 use mathlib.Core.Bool.{Bool, true}
-use mathlib.Core.List.{List, [], ◌∷◌, ◌++◌, append_assoc}
+use mathlib.Core.List.{List, [], ◌∷◌, ◌++◌, append_assoc, append-nil}
 use native.Mathlib.Omega.{arith}
 use lib.Dec.{leb}
+use borrow.Rule.Slice.PartMut.{put_mid}
+use Rattle.std.specs.List.{list_all}
 use lib.ListN.{length, take, drop, set, replicate, length-append, length-replicate, length-drop, take-append-drop}
-use lib.ListN.{replicate-append-replicate}
+use lib.ListN.{replicate-append-replicate, drop_of_length-le}
 use lib.Seq.{take-append_seam, drop-append_seam, set-append_seam, append_snoc, length-take-le}
 use borrow.Author.Tests.{leb-true, le-leb}
 use Rattle.rules.proofs.Cases.{both}
 use Rattle.packing.specs.Packing.{filled, all_are, padded}
+
+-- the library's `all` of a list is the same test
+pub all_are_all : {A : Type 0} (test : A → Bool) (xs : List A) → list_all test xs ≡ all_are test xs
+unfolding all_are
+all_are_all test [] = refl
+all_are_all test (x ∷ xs) = rw (all_are_all test xs)
 
 module _ {A : Type 0} (room : ℕ) (none : A) where
   pub length-filled : (xs : List A) → length xs ≤ room → length (filled room none xs) ≡ room
@@ -83,3 +91,13 @@ module _ {A : Type 0} (room : ℕ) (none : A) where
           drop-append_seam xs (replicate (room - length xs) none),
           all_zeros e (room - length xs),
         )
+
+-- zeros written over all behind the first n
+pub filled_past : {A : Type 0} (none : A) (n : ℕ) (xs : List A) → n ≤ length xs
+    → put_mid n (length xs - n) xs (replicate (length xs - n) none) ≡ filled (length xs) none (take n xs)
+unfolding filled
+filled_past none n xs h =
+    let zeros = replicate (length xs - n) none in
+    let e : drop (length xs - n) (drop n xs) ≡ [] =
+    drop_of_length-le (drop n xs) {i = length xs - n} (omega (arith, length-drop n xs)) in
+    rw (e, append-nil zeros, length-take-le n xs h)

@@ -2,14 +2,15 @@
 use Prim.Native.Nat.{ℕ, suc, ◌+◌, ◌≤◌, ◌<◌}
 use mathlib.Core.Path.{◌≡◌, refl, ap, ◌∙◌}
 use mathlib.Core.Bool.{Bool, true, false, ◌&&◌}
-use mathlib.Core.List.{List}
+use mathlib.Core.List.{List, [], ◌∷◌}
 use native.Mathlib.Numerals.{add-one}
 use native.Mathlib.Omega.{arith}
-use lib.ListN.{length, drop, get_or, drop_of_length-le}
+use lib.ListN.{length, drop, get_or, replicate, drop_of_length-le}
 use lib.Seq.{drop-cons}
 use lib.Dec.{eqb}
 use lib.Bits.{bit_or, or_zero_l, or_add_and, and_le_r}
 use borrow.Author.Tests.{ne_eqb, eqb-true, eqb-false}
+use Rattle.std.specs.Cmp.Lexicographic.{pointwise}
 use Rattle.rules.proofs.Cases.{split}
 use Rattle.packing.specs.Packing.{all_are, is_unused}
 
@@ -44,3 +45,9 @@ module _ (n : ℕ) (ns : List ℕ) (bits j : ℕ) (e : ZerosPast n ns bits j) wh
   unfolding all_are
   zeros_done h =
       e ∙ ap (λ (l : List ℕ). eqb bits 0 && all_are is_unused l) (drop_of_length-le ns h) ∙ and-true (eqb bits 0)
+
+-- room that `==` finds equal to zeros is unused
+pub equal_zeros : (xs : List ℕ) → pointwise eqb xs (replicate (length xs) 0) ≡ all_are is_unused xs
+unfolding all_are
+equal_zeros [] = refl
+equal_zeros (x ∷ xs) = rw (equal_zeros xs)

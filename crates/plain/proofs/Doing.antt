@@ -15,15 +15,17 @@ use Rattle.rules.proofs.Cases.{split}
 use Rattle.machine.specs.declared.Loads.{Loads}
 use Rattle.control.specs.declared.Tuning.{Tuning}
 use Rattle.control.specs.Control.{Control, control_of, Steerable, sampled}
+use Rattle.model.specs.declared.Offer.{Offer}
 use Rattle.model.specs.declared.Packet.{Packet}
 use Rattle.model.specs.declared.Clock.{Clock}
 use Rattle.model.specs.declared.Counts.{Counts}
 use Rattle.model.specs.Packets.{without_expired, at_back}
 use Rattle.model.specs.Ledger.{young}
 use Rattle.model.specs.State.{with_control}
-use Rattle.model.specs.Effects.{stepped, moved, sampled_by, one_accepted, one_sent, one_displaced, more_expired, expired}
-use Rattle.model.specs.Effects.{displaced, room_made, joined, admits}
-use Rattle.model.specs.Gate.{room_checks}
+use Rattle.model.specs.Calls.{offer}
+use Rattle.model.specs.Effects.{stepped, moved, refreshed, sampled_by, one_accepted, one_sent, one_displaced, more_expired}
+use Rattle.model.specs.Effects.{expired, displaced, room_made, joined, admits}
+use Rattle.model.specs.Gate.{number_checks, room_checks, own_checks}
 use Rattle.model.proofs.Orders.{expired-length}
 use Rattle.ledger.specs.declared.Ledger.{Ledger}
 use Rattle.ledger.specs.Layout as ledger
@@ -32,6 +34,7 @@ use Rattle.line.specs.Line.{Listed, count_of, without}
 use Rattle.line.specs.Layout.{places, items, packed, Packed}
 use Rattle.line.proofs.Packing.{items-packed, packed-Packed, packed-length}
 use Rattle.line.proofs.Rules.{place_left}
+use Rattle.checks.proofs.Offering.{then_rest}
 use Rattle.plain.specs.declared.State.{State}
 use Rattle.plain.specs.Layout.{control_on, view_of, state_of, LaidOut}
 use Rattle.plain.proofs.Views.{moved_writable, view_state, Known}
@@ -171,11 +174,19 @@ samples s a r stamp busy probes load e f k =
     k ∙ ap₂ (λ (v : Listed) (n : ℕ). state_of (with_control v (sampled v.control n))) (advanced_says s a stamp e) f
 
 -- an offer's room, once the expired are gone
-pub room_at : (a : State) (w : Listed) (n : ℕ) → a ≡ state_of w
+room_at : (a : State) (w : Listed) (n : ℕ) → a ≡ state_of w
     → first_of (room_checks a.oldway (count_of n (items a.line)) a.counts.accepted)
     ≡ first_of (room_checks w.oldway (count_of n w.waiting) w.counts.accepted)
 room_at a w n e =
     ap₂ (λ (x : State) (ps : List Packet). first_of (room_checks x.oldway (count_of n ps) x.counts.accepted)) e (waits a w e)
+
+-- where an offer's own numbers pass, its room is judged last
+pub room_last : (s : State) (stamp : ℕ) (o : Offer) (a : State) → a ≡ state_of (refreshed (view_of s) stamp)
+    → first_of (number_checks s.profile o) ≡ 0
+    → first_of (own_checks (view_of s) (offer stamp o))
+    ≡ first_of (room_checks a.oldway (count_of o.priority (items a.line)) a.counts.accepted)
+room_last s stamp o a e allowed =
+    then_rest s.profile o _ allowed ∙ sym (room_at a (refreshed (view_of s) stamp) o.priority e)
 
 -- one of a priority fewer leaves a place, and so does a priority that has fewer than five
 without_fewer : (n : ℕ) (ps : List Packet) → 1 ≤ count_of n ps → length (without n ps) + 1 ≡ length ps

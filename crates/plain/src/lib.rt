@@ -1,10 +1,11 @@
 // The plain engine: the gate with one list of packets in order of arrival, written to be read (document 02,
-// W-212).
+// W-212). It shares no trait with the gate: it is written anew, and that both agree is proved (`Agrees`).
 #![tactic(auto)]
 
 ghost use Rattle.std.specs.Prelude.{◌≡◌, true, ◌&&◌, [], ◌∷◌, ◌++◌, leb, eqb, length, ◌-◌, ◌≤◌, ◌<◌, max};
+ghost use Rattle.std.specs.Prelude.{ℕ, IsOk};
 ghost use Rattle.rules.specs.Profiles.{last_priority, room, full_load};
-ghost use Rattle.rules.specs.Refusals.{first_of};
+ghost use Rattle.rules.specs.Refusals.{first_of, number_of, number_in};
 ghost use Rattle.rules.specs.Clock.{end_of_time};
 ghost use Rattle.machine.specs.Loads.{no_loads};
 ghost use Rattle.control.specs.Control.{control_of, sampled, Steerable};
@@ -13,12 +14,13 @@ ghost use Rattle.model.specs.Calls.{words, count, offer, poll, making_of};
 ghost use Rattle.model.specs.Ledger.{most_air, young, air_of, allowed_from};
 ghost use Rattle.model.specs.State.{blank, not_live, with_control};
 ghost use Rattle.model.specs.Effects.{moved, refreshed, room_made, joined, wait_left, air_left, admits};
-ghost use Rattle.model.specs.Gate.{room_checks};
+ghost use Rattle.model.specs.Gate.{make_checks, clock_checks, number_checks, room_checks};
 ghost use Rattle.ledger.specs.Layout as ledger;
 ghost use Rattle.line.specs.Line.{count_of, without};
 ghost use Rattle.line.specs.Layout.{items};
 ghost use Rattle.plain.specs.Layout.{view_of, state_of, LaidOut, sound_state, Given, outcome, call_on};
 ghost use Rattle.plain.specs.Layout.{control_on, make_state, entry_number, forty};
+ghost use Rattle.plain.specs.Refusals.{checks_on};
 ghost use Rattle.plain.specs.Bursts.{offered_by, burst_state, burst_answers};
 ghost use Rattle.calllog.specs.Bursts.{burst_number};
 ghost use Rattle.plain.specs.Runs.{Agrees};
@@ -29,11 +31,12 @@ use line::Line;
 use machine::{Levels, Loads};
 use model::{Answer, Clock, Counts, Last, Offer, Packet};
 use records::{RECORD_BYTES, Record};
-use rules::Sample;
+use rules::refusal::Refusal;
 
 // One engine's state. `oldway` is 1 where an offer of a priority of which five wait is refused, 0 where it
 // displaces the first of those. `live` is 1, or 0 before a make that was not refused. The loads and the
-// levels are profile 5's, and zero in every other.
+// levels are profile 5's, and zero in every other. All are plain numbers, since C hands in any: `is_sound`
+// judges them.
 #[repr(C)]
 #[derive(Clone, Copy)]
 pub struct State {
@@ -50,7 +53,8 @@ pub struct State {
     pub live: u32,
 }
 
-// What a call gives: the next state and the answer.
+// What a call gives: the next state and the answer. One for each engine: `call_on` of its specs gives it, and
+// the laws of both name theirs.
 #[derive(Clone, Copy)]
 pub struct Outcome {
     pub state: State,
@@ -72,36 +76,30 @@ fn is_ledger_sound(l: Ledger, profile: u32, time: u64, last: Last) -> bool
     requires { time ≤ end_of_time }
     ensures { result ≡ ledger.sound_ledger profile time last l }
 {
-    let slots = l.slots;
-    ledger::is_sound(l.len, &slots, profile, time, last)
+    ledger::is_sound(l.len, &l.slots, profile, time, last)
 }
 
 // The ledger without the admissions that have aged. Its base is the time of the last admission.
-fn age(l: Ledger, base: u64, time: u64) -> Ledger
+fn age(mut l: Ledger, base: u64, time: u64) -> Ledger
     requires packed { ledger.Packed base l }
     requires in_order { ledger.InOrder (ledger.items base l) }
     ensures { result ≡ ledger.packed base (young time (ledger.items base l)) }
 {
-    let mut slots = l.slots;
-    let len = ledger::age(l.len, &mut slots, base, time);
-    Ledger { len, slots }
+    l.len = ledger::age(l.len, &mut l.slots, base, time);
+    l
 }
 
 // The ledger, none of it aged, with one more admission, which is the last from then on: its time is the base.
-fn note(l: Ledger, base: u64, at: u64, ontime: u32) -> Ledger
+fn note(mut l: Ledger, base: u64, at: u64, ontime: u32) -> Ledger
     requires packed { ledger.Packed base l }
     requires len_lt_forty { l.len < forty }
     requires base_le_at { base ≤ at }
     requires l_value { young at (ledger.items base l) ≡ ledger.items base l }
     ensures { result ≡ ledger.packed at (ledger.items base l ++ (ledger.admission at ontime ∷ [])) }
 {
-    let len = l.len;
-    let mut slots = l.slots;
-    ledger::note(len, &mut slots, base, at, ontime);
-    Ledger {
-        len: len + 1,
-        slots,
-    }
+    ledger::note(l.len, &mut l.slots, base, at, ontime);
+    l.len += 1;
+    l
 }
 
 // The µs until the air allows a packet.
@@ -111,11 +109,10 @@ fn air_left(l: Ledger, base: u64, ontime: u32, time: u64) -> u64
     requires timely { ledger.Timely (ledger.items base l) }
     ensures { result ≡ allowed_from ontime time (ledger.items base l) - time }
 {
-    let slots = l.slots;
-    ledger::air_left(l.len, &slots, base, ontime, time)
+    ledger::air_left(l.len, &l.slots, base, ontime, time)
 }
 
-// What a burst leaves: the state, and the number that refuses it, or 0.
+// What a burst leaves: the state, and the number that refuses it, or 0, which C takes beside the state.
 #[repr(C)]
 #[derive(Clone, Copy)]
 pub struct BurstTurn {
@@ -135,64 +132,55 @@ impl State {
         if 1 < self.oldway {
             return false;
         }
-        let profile = self.profile;
-        let tuning = self.tuning;
-        let levels = self.levels;
-        let loads = self.loads;
-        if !control::is_sound(profile, tuning, levels, loads) {
+        if !control::is_sound(self.profile, self.tuning, self.levels, self.loads) {
             return false;
         }
         let now = self.clock.time;
         if rules::passes_end(now) {
             return false;
         }
-        let last = self.last;
-        if !checks::is_last_sound(last, profile, now) {
+        if !checks::is_last_sound(self.last, self.profile, now) {
             return false;
         }
-        let line = self.line;
-        if !line::is_sound(line, profile, now) {
+        if !line::is_sound(self.line, self.profile, now) {
             return false;
         }
-        let counts = self.counts;
-        if !checks::are_counts_sound(counts, line.len as u64) {
+        if !checks::are_counts_sound(self.counts, self.line.len as u64) {
             return false;
         }
-        let ledger = self.ledger;
-        is_ledger_sound(ledger, profile, now, last)
+        is_ledger_sound(self.ledger, self.profile, now, self.last)
     }
 
     // A refusal hands back the given state unchanged.
-    fn refused(self, number: u32) -> Outcome
-        ensures { result ≡ outcome self (Refused number) }
+    fn refused(self, refusal: Refusal) -> Outcome
+        ensures { result ≡ outcome self (Refused (number_of refusal)) }
     {
         Outcome {
             state: self,
-            answer: Answer::Refused(number),
+            answer: Answer::from(refusal),
         }
     }
 
-    // The first that holds of the checks of every call, or 0: 9, 2, 3.
-    fn refusal(self, stamp: u32) -> u32
-        ensures exact { result ≡ entry_number self stamp }
-        ensures tight { result ≡ 0 → LaidOut self }
+    // The checks of every call.
+    fn check(self, stamp: u32) -> Result<(), Refusal>
+        ensures exact { number_in result ≡ entry_number self stamp }
+        ensures tight { IsOk result → LaidOut self }
     {
         if !self.is_sound() {
-            return 9;
+            return Err(Refusal::NoState);
         }
-        let clock = self.clock;
-        checks::clock_refusal(clock, stamp)
+        checks::clock_after(self.clock, stamp)?;
+        Ok(())
     }
 
-    // The clock moves, and admissions of the last second are dropped that have aged.
+    // The clock moves, and admissions of the last second are dropped that have aged. This and the next ask
+    // for a state that was judged: a type for it would be made and taken apart in each call.
     fn advance(mut self, stamp: u32) -> State
         requires { Given self }
         ensures { result ≡ state_of (moved (view_of self) stamp) }
     {
-        let given = self.clock;
-        let clock = checks::clock_at(given, stamp);
-        let ledger = self.ledger;
-        self.ledger = age(ledger, self.last.at, clock.time);
+        let clock = checks::clock_at(self.clock, stamp);
+        self.ledger = age(self.ledger, self.last.at, clock.time);
         self.clock = clock;
         self
     }
@@ -203,13 +191,10 @@ impl State {
         ensures { result ≡ state_of (refreshed (view_of self) stamp) }
     {
         let mut s = self.advance(stamp);
-        let line = s.line;
-        let left = line::expire(line, s.clock.time);
-        let gone = line.len - left.len;
-        let mut counts = s.counts;
-        counts.expired += gone as u64;
+        let left = line::expire(s.line, s.clock.time);
+        let gone = s.line.len - left.len;
+        s.counts.expired += gone as u64;
         s.line = left;
-        s.counts = counts;
         s
     }
 
@@ -233,16 +218,24 @@ impl State {
         self
     }
 
+    // The checks of a sample.
+    fn check_count(self, busy: u32, probes: u32, stamp: u32) -> Result<(), Refusal>
+        ensures exact { number_in result ≡ first_of (checks_on self (count stamp busy probes)) }
+        ensures tight { IsOk result → LaidOut self }
+    {
+        self.check(stamp)?;
+        if rules::is_bad_count(busy, probes) {
+            return Err(Refusal::BadSample);
+        }
+        Ok(())
+    }
+
     // A sample by its busy count.
     pub fn sample_count(mut self, busy: u32, probes: u32, stamp: u32) -> Outcome
         ensures { result ≡ call_on self (count stamp busy probes) }
     {
-        let number = self.refusal(stamp);
-        if number != 0 {
-            return self.refused(number);
-        }
-        if rules::is_bad_count(busy, probes) {
-            return self.refused(4);
+        if let Err(refusal) = self.check_count(busy, probes, stamp) {
+            return self.refused(refusal);
         }
         let s = self.advance(stamp);
         Outcome {
@@ -255,26 +248,35 @@ impl State {
     pub fn sample_words(mut self, probes: u32, ws: &[u64], stamp: u32) -> Outcome
         ensures { result ≡ call_on self (words stamp probes ws.now) }
     {
-        let sample = rules::read_sample(probes, ws);
-        match sample {
-            Sample::Busy(busy) => self.sample_count(busy, probes, stamp),
-            Sample::Bad => self.sample_count(1, 0, stamp),
+        match rules::read_sample(probes, ws) {
+            Some(busy) => self.sample_count(busy, probes, stamp),
+            None => self.sample_count(1, 0, stamp),
         }
     }
 
-    // Once the expired are gone: 8 where five of a priority wait in the old way, 11 where too many were
-    // accepted, or 0.
-    fn room_refusal(self, priority: u32) -> u32
-        ensures { result ≡ first_of (room_checks self.oldway (count_of priority (items self.line))
+    // The checks of an offer that look at none that wait.
+    fn check_offer(self, o: Offer, stamp: u32) -> Result<(), Refusal>
+        ensures exact { number_in result
+            ≡ first_of (clock_checks (sound_state self) self.clock stamp (number_checks self.profile o)) }
+        ensures tight { IsOk result → LaidOut self }
+    {
+        self.check(stamp)?;
+        checks::check_offer(self.profile, o)
+    }
+
+    // The checks that come last, once the expired are gone: of the old way, five of a priority wait; and too
+    // many were accepted.
+    fn check_room(self, priority: u32) -> Result<(), Refusal>
+        ensures { number_in result ≡ first_of (room_checks self.oldway (count_of priority (items self.line))
             self.counts.accepted) }
     {
         if refuses_full(self.oldway, self.line, priority) {
-            return 8;
+            return Err(Refusal::QueueFull);
         }
         if rules::MOST_OFFERS <= self.counts.accepted {
-            return 11;
+            return Err(Refusal::Spent);
         }
-        0
+        Ok(())
     }
 
     // A packet joins the line. Where five of its priority wait, the first of those leaves for it.
@@ -299,22 +301,15 @@ impl State {
     pub fn offer(mut self, o: Offer, stamp: u32) -> Outcome
         ensures { result ≡ call_on self (offer stamp o) }
     {
-        let number = self.refusal(stamp);
-        if number != 0 {
-            return self.refused(number);
-        }
-        let own = checks::offer_refusal(self.profile, o);
-        if own != 0 {
-            return self.refused(own);
+        if let Err(refusal) = self.check_offer(o, stamp) {
+            return self.refused(refusal);
         }
         let s = self.refresh(stamp);
-        let room = s.room_refusal(o.priority);
-        if room != 0 {
-            return self.refused(room);
+        if let Err(full) = s.check_room(o.priority) {
+            return self.refused(full);
         }
-        let p = checks::packet_of(o, s.clock.time);
         Outcome {
-            state: s.join(p),
+            state: s.join(checks::packet_of(o, s.clock.time)),
             answer: Answer::Taken,
         }
     }
@@ -326,10 +321,8 @@ impl State {
     {
         let last = self.last;
         let now = self.clock.time;
-        let tuning = self.tuning;
-        let levels = self.levels;
-        let listed = levels.wait(tuning.level);
-        let closed = control::closed_after(self.profile, tuning, listed, last.ontime);
+        let listed = self.levels.wait(self.tuning.level);
+        let closed = control::closed_after(self.profile, self.tuning, listed, last.ontime);
         let left = checks::left_of(closed, last, now);
         let late = air_left(self.ledger, last.at, p.ontime, now);
         checks::longer(left, late)
@@ -344,15 +337,12 @@ impl State {
         let now = self.clock.time;
         self.line = line::remove(self.line, p.priority);
         self.ledger = note(self.ledger, self.last.at, now, p.ontime);
-        let last = Last {
+        self.last = Last {
             at: now,
             ontime: p.ontime,
             admitted: 1,
         };
-        let mut counts = self.counts;
-        counts.sent += 1;
-        self.last = last;
-        self.counts = counts;
+        self.counts.sent += 1;
         self
     }
 
@@ -360,9 +350,8 @@ impl State {
     pub fn poll(mut self, stamp: u32) -> Outcome
         ensures { result ≡ call_on self (poll stamp) }
     {
-        let number = self.refusal(stamp);
-        if number != 0 {
-            return self.refused(number);
+        if let Err(refusal) = self.check(stamp) {
+            return self.refused(refusal);
         }
         let s = self.refresh(stamp);
         if s.line.len == 0 {
@@ -390,16 +379,10 @@ impl State {
 fn offered(mut state: State, rec: Record) -> Outcome
     ensures { result ≡ offered_by state rec }
 {
-    if rec.kind != 2 {
-        return state.refused(10);
+    if rec.kind != Record::OFFER {
+        return state.refused(Refusal::BadKind);
     }
-    let o = Offer {
-        id: rec.id,
-        priority: rec.priority,
-        ontime: rec.ontime,
-        lifetime: rec.lifetime,
-    };
-    state.offer(o, rec.stamp)
+    state.offer(rec.offer(), rec.stamp)
 }
 
 // The offers of a slice of records, one after the other, with an answer byte for each.
@@ -410,20 +393,18 @@ pub fn burst(mut state: State, records: &[u8], answers: &mut [u8]) -> BurstTurn
     ensures answers { answers.new ≡ burst_answers state records.now
         answers.old }
 {
-    let number = calllog::burst_refusal(records.len(), answers.len());
-    if number != 0 {
-        return BurstTurn { state, number };
+    if let Err(refusal) = calllog::check_burst(records.len(), answers.len()) {
+        return BurstTurn {
+            state,
+            number: refusal.number(),
+        };
     }
     let n = records.len() / RECORD_BYTES;
-    let mut i: usize = 0;
-    while i < n {
-        let rec = records::record_at(records, RECORD_BYTES * i);
-        let outcome = offered(state, rec);
-        let next = outcome.state;
-        let answer = outcome.answer;
-        state = next;
-        answers[i] = calllog::answer_byte(answer);
-        i += 1;
+    // Each record and its answer have one index; a chain over both would read no plainer.
+    for i in 0..n {
+        let outcome = offered(state, records::record_at(records, RECORD_BYTES * i));
+        state = outcome.state;
+        answers[i] = calllog::answer_byte(outcome.answer);
     }
     BurstTurn { state, number: 0 }
 }
@@ -442,25 +423,14 @@ fn blank_state(
     let line = line::empty();
     let ledger = ledger::empty();
     let loads = Loads::none();
-    let last = Last {
-        at: 0,
-        ontime: 0,
-        admitted: 0,
-    };
-    let counts = Counts {
-        accepted: 0,
-        sent: 0,
-        expired: 0,
-        displaced: 0,
-    };
     State {
         line,
         ledger,
         loads,
         levels,
         clock,
-        last,
-        counts,
+        last: Last::default(),
+        counts: Counts::default(),
         tuning,
         profile,
         oldway,
@@ -469,16 +439,13 @@ fn blank_state(
 }
 
 // What a refused make gives: the all-zero, not live state.
-fn refused_make(number: u32) -> Outcome
-    ensures { result ≡ outcome (state_of not_live) (Refused number) }
+fn refused_make(refusal: Refusal) -> Outcome
+    ensures { result ≡ outcome (state_of not_live) (Refused (number_of refusal)) }
 {
-    let clock = Clock { time: 0, stamp: 0 };
-    let tuning = control::none();
-    let levels = Levels::none();
-    let state = blank_state(0, 0, clock, 0, tuning, levels);
+    let state = blank_state(0, 0, Clock::default(), 0, control::none(), Levels::none());
     Outcome {
         state,
-        answer: Answer::Refused(number),
+        answer: Answer::from(refusal),
     }
 }
 
@@ -488,14 +455,8 @@ pub fn make(profile: u32, oldway: u32, list: Levels, stamp: u32) -> Outcome
     ensures exact { result ≡ make_state (making_of profile oldway list stamp) }
     ensures same { Agrees result (making_of profile oldway list stamp) }
 {
-    if !rules::lies_within(rules::FIRST_PROFILE, rules::LAST_PROFILE, profile) {
-        return refused_make(1);
-    }
-    if 1 < oldway {
-        return refused_make(1);
-    }
-    if control::is_list_refused(profile, list) {
-        return refused_make(15);
+    if let Err(refusal) = checks::check_making(profile, oldway, list) {
+        return refused_make(refusal);
     }
     let clock = Clock { time: 0, stamp };
     let tuning = control::fresh();

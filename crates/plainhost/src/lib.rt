@@ -3,14 +3,14 @@
 #![tactic(auto)]
 
 ghost use Rattle.std.specs.Prelude.{◌≡◌, length};
-ghost use Rattle.model.specs.Calls.{plain_reply, reply_of, making_of, words, count, offer, poll};
+ghost use Rattle.model.specs.Calls.{making_of, words, count, offer, poll};
 ghost use Rattle.plain.specs.Layout.{call_on, make_state};
 ghost use Rattle.calllog.specs.Bursts.{burst_number};
 ghost use Rattle.plain.specs.Bursts.{burst_state, burst_answers};
 ghost use Rattle.plainhost.specs.Turns.{turn_of};
 
 use machine::Levels;
-use model::{Answer, Offer, Reply};
+use model::{Offer, Reply};
 use plain::{BurstTurn, Outcome, State};
 
 pub mod edition;
@@ -23,57 +23,15 @@ pub struct Turn {
     pub reply: Reply,
 }
 
-// The kinds of answers.
-pub const READY: u32 = 0;
+impl From<Outcome> for Turn {
+    ghost from_gives = { λ outcome turn. turn ≡ turn_of outcome };
 
-pub const TAKEN: u32 = 1;
-
-pub const SENT: u32 = 2;
-
-pub const IDLE: u32 = 3;
-
-pub const CLOSED: u32 = 4;
-
-pub const REFUSED: u32 = 5;
-
-// A reply that carries a number and no packet.
-fn reply_with(kind: u32, number: u64) -> Reply
-    ensures { result ≡ plain_reply kind number }
-{
-    let packet = checks::NO_PACKET;
-    Reply {
-        packet,
-        number,
-        kind,
+    fn from(outcome: Outcome) -> Turn {
+        Turn {
+            state: outcome.state,
+            reply: Reply::from(outcome.answer),
+        }
     }
-}
-
-// An answer as plain numbers.
-fn reply_of(answer: Answer) -> Reply
-    ensures { result ≡ reply_of answer }
-{
-    match answer {
-        Answer::Ready => reply_with(READY, 0),
-        Answer::Taken => reply_with(TAKEN, 0),
-        Answer::Sent(packet) => Reply {
-            packet,
-            number: 0,
-            kind: SENT,
-        },
-        Answer::Idle => reply_with(IDLE, 0),
-        Answer::Closed(left) => reply_with(CLOSED, left),
-        Answer::Refused(number) => reply_with(REFUSED, number as u64),
-    }
-}
-
-// What a call gave, for the host.
-fn turn_of(outcome: Outcome) -> Turn
-    ensures { result ≡ turn_of outcome }
-{
-    let answer = outcome.answer;
-    let state = outcome.state;
-    let reply = reply_of(answer);
-    Turn { state, reply }
 }
 
 // A fresh state; the all-zero one with the refusal of a bad profile, of a way that is neither 0 nor 1, or, in
@@ -87,7 +45,7 @@ pub extern "C" fn presscurlew_plain_make(
 ) -> Turn
     ensures { result ≡ turn_of (make_state (making_of profile oldway list stamp)) }
 {
-    turn_of(plain::make(profile, oldway, list, stamp))
+    Turn::from(plain::make(profile, oldway, list, stamp))
 }
 
 // A sample by words.
@@ -100,7 +58,7 @@ pub extern "C" fn presscurlew_plain_sample_words(
 ) -> Turn
     ensures { result ≡ turn_of (call_on state (words stamp probes ws.now)) }
 {
-    turn_of(state.sample_words(probes, ws, stamp))
+    Turn::from(state.sample_words(probes, ws, stamp))
 }
 
 // A sample by its busy count.
@@ -113,7 +71,7 @@ pub extern "C" fn presscurlew_plain_sample_count(
 ) -> Turn
     ensures { result ≡ turn_of (call_on state (count stamp busy probes)) }
 {
-    turn_of(state.sample_count(busy, probes, stamp))
+    Turn::from(state.sample_count(busy, probes, stamp))
 }
 
 // A packet offered.
@@ -135,7 +93,7 @@ pub extern "C" fn presscurlew_plain_offer(
         ontime,
         lifetime,
     };
-    turn_of(state.offer(o, stamp))
+    Turn::from(state.offer(o, stamp))
 }
 
 // Whether a packet may go, and which.
@@ -143,7 +101,7 @@ pub extern "C" fn presscurlew_plain_offer(
 pub extern "C" fn presscurlew_plain_poll(state: State, stamp: u32) -> Turn
     ensures { result ≡ turn_of (call_on state (poll stamp)) }
 {
-    turn_of(state.poll(stamp))
+    Turn::from(state.poll(stamp))
 }
 
 // The offers of a slice of log records, in one call, with an answer byte for each.

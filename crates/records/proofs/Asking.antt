@@ -1,10 +1,10 @@
 -- Where a whole record stands, that 16 bytes tell it, and what a record of each kind asks: the definitions at that number.
 use Prim.Native.Nat.{ℕ, ◌+◌, ◌<◌, ◌≤◌}
 use mathlib.Core.Path.{◌≡◌}
-use mathlib.Core.List.{List, []}
+use mathlib.Core.List.{List}
 use native.Mathlib.Nat.{add_assoc, add-zero}
 use native.Mathlib.Omega.{arith}
-use borrow.Author.Tests.{ne_eqb, eqb-true, eqb-false, le-leb, lt-leb}
+use borrow.Author.Tests.{ne_eqb, eqb-true, eqb-false, le-leb}
 use lib.Dec.{eqb}
 use lib.ListN.{length}
 use Rattle.rules.proofs.Cases.{split}
@@ -13,14 +13,10 @@ use Rattle.records.specs.declared.Record.{Record}
 use Rattle.records.specs.Records.{record_bytes, byte_at, two_at, four_at, record_at, whole_record_at}
 use Rattle.records.specs.Records.{makes, calls, unknown, profile_in, making_in, offer_in, probes_in, asked_by}
 
--- 16 bytes from a place on are a record; with fewer there is none
+-- 16 bytes from a place on are a record
 pub whole_record : (log : List ℕ) (at : ℕ) → at + record_bytes ≤ length log → whole_record_at log at ≡ record_at log at
 unfolding whole_record_at
 whole_record log at h = rw (le-leb (at + record_bytes) (length log) h)
-
-pub no_record : (log : List ℕ) (at : ℕ) → length log < at + record_bytes → whole_record_at log at ≡ record_at [] 0
-unfolding whole_record_at
-no_record log at h = rw (lt-leb (at + record_bytes) (length log) h)
 
 -- two logs that agree on the 16 bytes of a record have the same record there
 pub same_record :

@@ -1,17 +1,17 @@
 -- Fields put one behind the other are the record's bytes; and a write is judged by the arguments' table first, then the place's.
-use Prim.Native.Nat.{ℕ, ◌+◌, ◌/◌, ◌%◌, ◌≤◌, ◌<◌}
+use Prim.Native.Nat.{ℕ, zero, suc, ◌+◌, ◌/◌, ◌≤◌, ◌<◌}
 use mathlib.Core.Path.{◌≡◌, refl, sym, ap, ◌∙◌}
 use mathlib.Core.Bool.{Bool, cond}
-use mathlib.Core.List.{List, [], ◌∷◌, ◌++◌}
-use native.Mathlib.Numerals.{add-one}
+use mathlib.Core.List.{List, ◌++◌}
 use native.Mathlib.Omega.{arith}
 use borrow.Author.Tests.{lt-ltb, le-ltb, ltb-true, ltb-false, eqb-true, ne_eqb}
 use lib.Dec.{eqb, ltb}
-use lib.ListN.{length, set}
-use lib.Seq.{sets-eq}
-use Rattle.rules.specs.Refusals.{first_of}
-use Rattle.rules.proofs.Cases.{split, on_test}
-use Rattle.rules.proofs.Refusals.{Numbered, first_append}
+use lib.ListN.{length, take}
+use Rattle.std.specs.Int.{w32, to_le_bytes}
+use Rattle.rules.specs.declared.refusal.Refusal.{Refusal}
+use Rattle.rules.specs.Refusals.{first_of, number_of}
+use Rattle.rules.proofs.Cases.{split}
+use Rattle.rules.proofs.Refusals.{Numbered, first_append, some_number}
 use Rattle.model.specs.Calls.{words, count, offer, poll}
 use Rattle.records.specs.declared.Record.{Record}
 use Rattle.records.specs.Records.{Asked, makes, calls, unknown}
@@ -20,11 +20,23 @@ use Rattle.records.specs.Writing.{little_endian, bytes_of, record_of, argument_c
 use Rattle.records.specs.Writing.{write_number, unless_refused, log_after, Wrote}
 use Rattle.records.proofs.Buffers.{next}
 
--- two bytes stored one after the other
-pub two_stores :
-    (d : List ℕ) (at a b : ℕ) → at + 2 ≤ length d → set (set d at a) (at + 1) b ≡ written d at (a ∷ b ∷ [])
-two_stores d at a b h =
-    ap (λ (k : ℕ). set (set d at a) k b) (add-one at) ∙ sets-eq (a ∷ b ∷ []) d at h
+pub length_bytes : (width n : ℕ) → length (little_endian width n) ≡ width
+unfolding little_endian
+length_bytes zero n = refl
+length_bytes (suc width) n = ap suc (length_bytes width (n / 256))
+
+-- the library's bytes of a number, as many as a field has
+pub low_bytes : (width n : ℕ) → width ≤ 4 → take width (to_le_bytes w32 n) ≡ little_endian width n
+unfolding little_endian
+low_bytes zero n h = refl
+low_bytes (suc zero) n h = refl
+low_bytes (suc (suc zero)) n h = refl
+low_bytes (suc (suc (suc zero))) n h = let two : n / 65536 ≡ n / 256 / 256 = omega arith in rw two refl
+low_bytes (suc (suc (suc (suc zero)))) n h =
+    let two : n / 65536 ≡ n / 256 / 256 = omega arith in
+    let three : n / 16777216 ≡ n / 256 / 256 / 256 = omega arith in
+    rw (two, three) refl
+low_bytes (suc (suc (suc (suc (suc width))))) n h = absurd (omega arith)
 
 -- a text put behind another, at a place k
 more :
@@ -32,32 +44,24 @@ more :
     → l ≡ written d at s → l' ≡ written l k t → l' ≡ written d at (s ++ t)
 more d l l' at k s t h p e f = (next h (record { place = p; bytes = e }) (record { place = refl; bytes = f })).bytes
 
--- four bytes are two and two
-pub two-and-two :
-    (d l l' : List ℕ) (at n : ℕ) → at ≤ length d
-    → l ≡ written d at (little_endian 2 n) → l' ≡ written l (at + 2) (little_endian 2 (n / 65536))
-    → l' ≡ written d at (little_endian 4 n)
-unfolding little_endian
-two-and-two d l l' at n h e f =
-    let halves : n / 65536 ≡ n / 256 / 256 = omega arith in
-    more d l l' at (at + 2) (little_endian 2 n) (little_endian 2 (n / 65536)) h refl e f
-    ∙ ap (λ (m : ℕ). written d at (n % 256 ∷ n / 256 % 256 ∷ m % 256 ∷ m / 256 % 256 ∷ [])) halves
-
 -- the fields put one behind the other are the record's bytes
 pub fields :
-    (d l₂ l₃ l₄ l₅ l₆ : List ℕ) (at : ℕ) (rec : Record) → at ≤ length d
-    → l₂ ≡ written d at (rec.kind % 256 ∷ rec.priority % 256 ∷ [])
+    (d l₁ l₂ l₃ l₄ l₅ l₆ : List ℕ) (at : ℕ) (rec : Record) → at ≤ length d
+    → l₁ ≡ written d at (little_endian 1 rec.kind)
+    → l₂ ≡ written l₁ (at + 1) (little_endian 1 rec.priority)
     → l₃ ≡ written l₂ (at + 2) (little_endian 2 rec.ontime)
     → l₄ ≡ written l₃ (at + 4) (little_endian 4 rec.lifetime)
     → l₅ ≡ written l₄ (at + 8) (little_endian 4 rec.id)
     → l₆ ≡ written l₅ (at + 12) (little_endian 4 rec.stamp)
     → l₆ ≡ written d at (bytes_of rec)
 unfolding little_endian bytes_of
-fields d l₂ l₃ l₄ l₅ l₆ at rec h p₂ e₃ e₄ e₅ e₆ =
-    let s₂ = little_endian 1 rec.kind ++ little_endian 1 rec.priority in
+fields d l₁ l₂ l₃ l₄ l₅ l₆ at rec h p₁ e₂ e₃ e₄ e₅ e₆ =
+    let s₁ = little_endian 1 rec.kind in
+    let s₂ = s₁ ++ little_endian 1 rec.priority in
     let s₃ = s₂ ++ little_endian 2 rec.ontime in
     let s₄ = s₃ ++ little_endian 4 rec.lifetime in
     let s₅ = s₄ ++ little_endian 4 rec.id in
+    let p₂ = more d l₁ l₂ at (at + 1) s₁ (little_endian 1 rec.priority) h refl p₁ e₂ in
     let p₃ = more d l₂ l₃ at (at + 2) s₂ (little_endian 2 rec.ontime) h refl p₂ e₃ in
     let p₄ = more d l₃ l₄ at (at + 4) s₃ (little_endian 4 rec.lifetime) h refl p₃ e₄ in
     let p₅ = more d l₄ l₅ at (at + 8) s₄ (little_endian 4 rec.id) h refl p₄ e₅ in
@@ -98,33 +102,35 @@ room bytes at refusal number n z =
     absurd (omega arith))
     (ltb-false bytes (at + 16))
 
--- a refusal writes nothing, and no refusal leaves what was put
-pub kept : (number : ℕ) (log : List ℕ) (at : ℕ) (rec : Record) → (number ≡ 0 → ⊥) → log ≡ unless_refused number log at rec
-kept number log at rec h = sym (ap (λ (u : Bool). cond u (written log at (bytes_of rec)) log) (ne_eqb number 0 h))
+-- a refusal writes nothing
+pub kept :
+    (refusal : Refusal) (log : List ℕ) (at : ℕ) (rec : Record) → log ≡ unless_refused (number_of refusal) log at rec
+kept refusal log at rec = rw (ne_eqb (number_of refusal) 0 (some_number refusal))
 
--- a write is judged by the call's own refusal, and then by its place; where nothing is refused, the record is the call's
-pub judged :
-    (log : List ℕ) (at : ℕ) (a : Asked) (refusal number : ℕ) (rec : Record) (after : List ℕ)
-    → refusal ≡ first_of (argument_checks a)
-    → (refusal ≡ 0 → rec ≡ record_of a)
-    → number ≡ cond (eqb refusal 0) (first_of (place_checks (length log) at)) refusal
+-- a write is refused by the call's own numbers
+pub refused :
+    (log : List ℕ) (at : ℕ) (a : Asked) (refusal : Refusal) → number_of refusal ≡ first_of (argument_checks a)
+    → Wrote log at a (number_of refusal) log
+unfolding write_number log_after
+refused log at a refusal r =
+    let answer : number_of refusal ≡ write_number log at a =
+    sym
+    (first_append (argument_checks a) (place_checks (length log) at) (numbered a)
+    ∙ rw (sym r, ne_eqb (number_of refusal) 0 (some_number refusal)) refl) in
+    record { answer = answer; bytes = rw answer at (kept refusal log at (record_of a)) }
+
+-- and where they pass by its place, where nothing is refused, the record is the call's
+pub placed :
+    (log : List ℕ) (at : ℕ) (a : Asked) (number : ℕ) (rec : Record) (after : List ℕ)
+    → 0 ≡ first_of (argument_checks a)
+    → rec ≡ record_of a
+    → number ≡ first_of (place_checks (length log) at)
     → after ≡ unless_refused number log at rec
     → Wrote log at a number after
 unfolding write_number log_after
-judged log at a refusal number rec after r same n e =
+placed log at a number rec after r same n e =
     let answer : number ≡ write_number log at a =
     n
-    ∙ ap (λ (k : ℕ). cond (eqb k 0) (first_of (place_checks (length log) at)) k) r
-    ∙ sym (first_append (argument_checks a) (place_checks (length log) at) (numbered a)) in
-    let mine : number ≡ 0 → refusal ≡ 0 = passed refusal number (first_of (place_checks (length log) at)) n in
-    record {
-      answer = answer;
-      bytes =
-          e
-          ∙ on_test
-          (λ (u : Bool). cond u (written log at (bytes_of rec)) log ≡ cond u (written log at (bytes_of (record_of a))) log)
-          (eqb number 0)
-          (λ z. ap (λ (x : Record). written log at (bytes_of x)) (same (mine (eqb-true number 0 z))))
-          (λ z. refl)
-          ∙ ap (λ (k : ℕ). unless_refused k log at (record_of a)) answer;
-    }
+    ∙ sym
+    (first_append (argument_checks a) (place_checks (length log) at) (numbered a) ∙ rw (sym r) refl) in
+    record { answer = answer; bytes = e ∙ rw (same, answer) refl }

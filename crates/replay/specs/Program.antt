@@ -27,8 +27,6 @@ pub record Reached (s : State) (more : Bool) : Type 0 where
   pub state : s ≡ reached_from at_start log (length log / record_bytes)
   pub cut : more ≡ true → length log ≡ record_bytes * (length log / record_bytes)
 
--- the program ends with the head of such a state
-pub record Ended (r : Progress) : Type 0 where
-  pub state : State
-  pub head : r.head ≡ state.head
-  pub reached : Reached state r.more
+-- the program ends with such a state
+abbrev pub Ended : State → Progress → Type 0
+Ended s r = Reached s r.more

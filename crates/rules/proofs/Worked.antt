@@ -3,14 +3,17 @@
 use Rattle.std.proofs.Common.{◌≡◌, ℕ, ◌+◌, ◌-◌, ◌*◌, ◌^◌, Bool, true, false, cond, eqb, leb, List, [], ◌∷◌, ◌++◌, map, length}
 use Rattle.std.proofs.Common.{get_or, replicate, ℤ, pos, neg_ℤ, refl, inl, inr, arith}
 use borrow.Author.Tests.{eqb-false}
-use Rattle.rules.specs.declared.Sample.TheVariants.{Busy, Bad}
+use Rattle.std.specs.Prelude.{Some, None, Ok, Err}
 use Rattle.rules.specs.Tests.{all_of}
 use Rattle.rules.specs.Profiles.{profile3, profile4, full_load, top_level, within, is_profile, profiles}
 use Rattle.rules.specs.Profiles.{is_reactive, is_unlisted, by_profile, reactive_of, limits_of, most_ontime}
 use Rattle.rules.specs.Profiles.{ontime_allowed, duty_allowed}
 use Rattle.rules.specs.Profiles.{lifetime_allowed, last_priority, room, most_offers}
 use Rattle.rules.specs.Clock.{stamps, step_of, goes_back, end_of_time, passes_end}
-use Rattle.rules.specs.Refusals.{check, first_of, FirstHolds, NoneHolds}
+use Rattle.rules.specs.declared.refusal.Refusal.TheVariants.{BadProfile, ClockBack, ClockEnd, BadSample, BadPriority}
+use Rattle.rules.specs.declared.refusal.Refusal.TheVariants.{BadOntime, BadLifetime, QueueFull, NoState, BadKind}
+use Rattle.rules.specs.declared.refusal.Refusal.TheVariants.{Spent, NoRoom, TornLog, BadList}
+use Rattle.rules.specs.Refusals.{number_of, number_in, check, first_of, FirstHolds, NoneHolds}
 use Rattle.rules.specs.Samples.{most_probes, good_probes, usual_probes, probe, busy_of, words_for, no_stray, good_words}
 use Rattle.rules.specs.Samples.{sample_of, sample_number, bad_count, load_of}
 use Rattle.rules.specs.Levels.{wanted_by, towards, wait_by}
@@ -157,6 +160,19 @@ end_of_time_lem : map passes_end (0 ∷ 1000000000000000 ∷ 1000000000000001 �
 unfolding passes_end
 end_of_time_lem = refl
 
+-- the table of refusal numbers, in its order: 1 to 10; 11 (W-201), 12 and 13 (W-204), 15 (W-213)
+numbers_of_the_reasons :
+    map number_of
+    (BadProfile ∷ ClockBack ∷ ClockEnd ∷ BadSample ∷ BadPriority ∷ BadOntime ∷ BadLifetime ∷ QueueFull ∷ NoState ∷ BadKind
+    ∷ Spent ∷ NoRoom ∷ TornLog ∷ BadList ∷ [])
+    ≡ 1 ∷ 2 ∷ 3 ∷ 4 ∷ 5 ∷ 6 ∷ 7 ∷ 8 ∷ 9 ∷ 10 ∷ 11 ∷ 12 ∷ 13 ∷ 15 ∷ []
+numbers_of_the_reasons = refl
+
+-- what nothing refuses comes to 0, and what is refused to the reason's number
+numbers_of_checks :
+    map (number_in {A = ℕ}) (Ok 0 ∷ Ok 7 ∷ Err BadProfile ∷ Err NoState ∷ Err BadList ∷ []) ≡ 0 ∷ 0 ∷ 1 ∷ 9 ∷ 15 ∷ []
+numbers_of_checks = refl
+
 -- "the first that holds is the answer"
 first_that_holds :
     map first_of
@@ -239,35 +255,35 @@ samples_by_words :
     ∷ fifteen
     ∷ (fifteen ++ 0 ∷ 0 ∷ [])
     ∷ [])
-    ≡ Busy 0 ∷ Busy 106 ∷ Busy 1000 ∷ Bad ∷ Bad ∷ Bad ∷ []
+    ≡ Some 0 ∷ Some 106 ∷ Some 1000 ∷ None ∷ None ∷ None ∷ []
 unfolding all_busy sample_from fifteen sample_of good_words good_probes within no_stray busy_of probe
 samples_by_words = refl
 
 -- other numbers of probes (W-208): none; one, busy and not, with a stray bit, with a word too few and too many; 63, 64 and 65,
 -- where no bit of a full word is stray; 12,501
 
-no_probes : map (sample_of 0) ([] ∷ (0 ∷ []) ∷ fifteen ∷ []) ≡ Bad ∷ Bad ∷ Bad ∷ []
+no_probes : map (sample_of 0) ([] ∷ (0 ∷ []) ∷ fifteen ∷ []) ≡ None ∷ None ∷ None ∷ []
 unfolding fifteen sample_of good_words good_probes within no_stray busy_of probe
 no_probes = refl
 
 one-probe :
     map (sample_of 1) ((1 ∷ []) ∷ (0 ∷ []) ∷ (2 ∷ []) ∷ (3 ∷ []) ∷ (2 ^ 63 ∷ []) ∷ [] ∷ (1 ∷ 0 ∷ []) ∷ [])
-    ≡ Busy 1 ∷ Busy 0 ∷ Bad ∷ Bad ∷ Bad ∷ Bad ∷ Bad ∷ []
+    ≡ Some 1 ∷ Some 0 ∷ None ∷ None ∷ None ∷ None ∷ None ∷ []
 unfolding sample_of good_words good_probes within no_stray busy_of probe
 one-probe = refl
 
-sixty_three_probes : map (sample_of 63) (((2 ^ 63 - 1) ∷ []) ∷ (2 ^ 63 ∷ []) ∷ (1 ∷ 0 ∷ []) ∷ []) ≡ Busy 63 ∷ Bad ∷ Bad ∷ []
+sixty_three_probes : map (sample_of 63) (((2 ^ 63 - 1) ∷ []) ∷ (2 ^ 63 ∷ []) ∷ (1 ∷ 0 ∷ []) ∷ []) ≡ Some 63 ∷ None ∷ None ∷ []
 unfolding sample_of good_words good_probes within no_stray busy_of probe
 sixty_three_probes = refl
 
 sixty_four_probes :
-    map (sample_of 64) (((2 ^ 64 - 1) ∷ []) ∷ (2 ^ 63 ∷ []) ∷ [] ∷ (1 ∷ 0 ∷ []) ∷ []) ≡ Busy 64 ∷ Busy 1 ∷ Bad ∷ Bad ∷ []
+    map (sample_of 64) (((2 ^ 64 - 1) ∷ []) ∷ (2 ^ 63 ∷ []) ∷ [] ∷ (1 ∷ 0 ∷ []) ∷ []) ≡ Some 64 ∷ Some 1 ∷ None ∷ None ∷ []
 unfolding sample_of good_words good_probes within no_stray busy_of probe
 sixty_four_probes = refl
 
 sixty_five_probes :
     map (sample_of 65) (((2 ^ 64 - 1) ∷ 1 ∷ []) ∷ (2 ^ 63 ∷ 0 ∷ []) ∷ (0 ∷ 2 ∷ []) ∷ (1 ∷ []) ∷ (1 ∷ 0 ∷ 0 ∷ []) ∷ [])
-    ≡ Busy 65 ∷ Busy 1 ∷ Bad ∷ Bad ∷ Bad ∷ []
+    ≡ Some 65 ∷ Some 1 ∷ None ∷ None ∷ None ∷ []
 unfolding sample_of good_words good_probes within no_stray busy_of probe
 sixty_five_probes = refl
 
@@ -276,13 +292,13 @@ most_busy : (last : ℕ) → List ℕ
 most_busy last = replicate 195 (2 ^ 64 - 1) ++ last ∷ []
 
 most_probes_lem :
-    map (sample_of 12500) (most_busy (2 ^ 20 - 1) ∷ most_busy (2 ^ 20) ∷ (most_busy 0 ++ 0 ∷ []) ∷ []) ≡ Busy 12500 ∷ Bad ∷ Bad
+    map (sample_of 12500) (most_busy (2 ^ 20 - 1) ∷ most_busy (2 ^ 20) ∷ (most_busy 0 ++ 0 ∷ []) ∷ []) ≡ Some 12500 ∷ None ∷ None
     ∷ []
 unfolding most_busy sample_of good_words good_probes within no_stray busy_of probe
 most_probes_lem = refl
 
 -- BAD-SAMPLE is "4"
-sample_numbers : map sample_number (Busy 0 ∷ Busy 1000 ∷ Bad ∷ []) ≡ 0 ∷ 0 ∷ 4 ∷ []
+sample_numbers : map sample_number (Some 0 ∷ Some 1000 ∷ None ∷ []) ≡ 0 ∷ 0 ∷ 4 ∷ []
 unfolding sample_number
 sample_numbers = refl
 

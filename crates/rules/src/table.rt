@@ -103,7 +103,7 @@ const ROW_62: [u16; 16] = [
     1499, 1502, 1505, 1507, 1510, 1512, 1515, 1517, 1519, 0, 0, 0, 0, 0, 0, 0,
 ];
 
-// Row k of the table.
+// Row k of the table. It is a match: an array of the rows would be laid out whole wherever one is read.
 fn row(k: u32) -> [u16; 16]
     requires le_k { 38 ≤ k }
     requires k_bound { k ≤ 62 }
@@ -138,13 +138,6 @@ fn row(k: u32) -> [u16; 16]
     }
 }
 
-// An entry as a number of 32 bits.
-fn wide(entry: u16) -> u32
-    ensures { result ≡ entry }
-{
-    entry as u32
-}
-
 // The factor of a load in per mille: 0 up to 620, then the table's.
 pub fn factor(c: u32) -> u32
     requires { c ≤ 1000 }
@@ -154,5 +147,5 @@ pub fn factor(c: u32) -> u32
         return 0;
     }
     let entries = row(c / 16);
-    wide(entries[c as usize % 16])
+    u32::from(entries[c as usize % 16])
 }

@@ -1,14 +1,16 @@
 -- Four queues that are sound one by one are sound as the model asks.
-use Prim.Native.Nat.{ℕ, ◌+◌, ◌≤◌, ◌<◌}
-use mathlib.Core.Path.{◌≡◌, refl, ap, sym, ◌∙◌, subst⁻¹}
+use Prim.Native.Nat.{ℕ, ◌≤◌, ◌<◌}
+use mathlib.Core.Path.{◌≡◌, refl, ap, sym, ◌∙◌, subst, subst⁻¹}
 use mathlib.Core.Bool.{Bool, true, false, ◌&&◌, and-false}
 use mathlib.Core.List.{List, [], ◌∷◌}
 use native.Mathlib.Omega.{arith}
-use lib.ListN.{length, drop, get_or, length-map, length-take}
+use lib.ListN.{length, get_or, length-map, length-take}
 use borrow.Author.Tests.{le-leb, eq-eqb}
+use Rattle.std.specs.Bool.{MatchBool}
+use Rattle.std.specs.List.{AllWithin, HoldsAt, range_with_len}
+use Rattle.std.proofs.lemmas.List.Recursion.{and_is}
 use Rattle.rules.specs.Tests.{all_of}
 use Rattle.rules.specs.Profiles.{room, most_ontime, ontime_allowed}
-use Rattle.packing.proofs.Walk.{next, done}
 use Rattle.model.specs.Packets.{in_order}
 use Rattle.model.specs.Queues.{own_packet, queue_sound}
 use Rattle.waiting.specs.declared.Cell.{Cell}
@@ -31,17 +33,13 @@ own_sound profile now k r s =
     omega (arith, length-map (items r) (λ (c : Cell). packet_in k c), length-take (len_in r) (cells r), length-cells r s) in
     rw (own_order profile now k 0 (items r), le-leb (length (own_packets k (items r))) room short)
 
-abbrev pub verdicts : (most now : ℕ) → Rows → List Bool
+abbrev verdicts : (most now : ℕ) → Rows → List Bool
 verdicts most now r =
     sound_queue most now (part 0 r)
     ∷ sound_queue most now (part 1 r)
     ∷ sound_queue most now (part 2 r)
     ∷ sound_queue most now (part 3 r)
     ∷ []
-
--- from queue k on
-abbrev pub Judged : (profile most now : ℕ) → Rows → ℕ → Type 0
-Judged profile most now r k = sound_queues profile now r ≡ all_of (drop k (verdicts most now r))
 
 paired : (a b c d e f g h : Bool)
     → (a && (b && (c && (d && true)))) && (e && (f && (g && (h && true))))
@@ -56,7 +54,7 @@ module _ (profile now : ℕ) (r : Rows) (s : Sized 4 r) where
   abbrev rules_at : ℕ → Bool
   rules_at k = queue_sound profile now k (own_packets k (items (part k r)))
 
-  judging_most : Judged profile (most_ontime profile) now r 0
+  judging_most : sound_queues profile now r ≡ all_of (verdicts (most_ontime profile) now r)
   unfolding sound_queues tidy queues four_of
   judging_most =
       rw (
@@ -69,23 +67,37 @@ module _ (profile now : ℕ) (r : Rows) (s : Sized 4 r) where
       (rules_at 1)
       (rules_at 2) (rules_at 3))
 
+  judging : (most : ℕ) → most ≡ most_ontime profile → sound_queues profile now r ≡ all_of (verdicts most now r)
+  judging most e = subst⁻¹ (λ (m : ℕ). sound_queues profile now r ≡ all_of (verdicts m now r)) e judging_most
+
+  -- the four judged one by one, as the code lends them
   module _ (most : ℕ) where
-    pub judging : most ≡ most_ontime profile → Judged profile most now r 0
-    judging e = subst⁻¹ (λ (m : ℕ). Judged profile m now r 0) e judging_most
+    abbrev lent_sound : ℕ → Bool
+    lent_sound k = sound_queue most now (lent_rows k r)
 
-    verdict_at : (k : ℕ) → k < 4 → get_or (verdicts most now r) k true ≡ sound_queue most now (part k r)
-    verdict_at = by_four (λ k. get_or (verdicts most now r) k true ≡ sound_queue most now (part k r)) refl refl refl refl
+    abbrev pub Each : Bool → Type 0
+    Each u =
+        MatchBool u (AllWithin (λ k. lent_sound k ≡ true) (range_with_len 0 4) 0 4)
+        ((j : ℕ) × (j < 4) × HoldsAt (λ k. lent_sound k ≡ false) (range_with_len 0 4) j)
 
-    module _ (k : ℕ) (e : Judged profile most now r k) (h : k < 4) (u : Bool) (q : u ≡ sound_queue most now (lent_rows k r)) where
-      split_next : sound_queues profile now r ≡ (u && all_of (drop (k + 1) (verdicts most now r)))
-      split_next =
-          e ∙ rw (next true (verdicts most now r) k h, verdict_at k h, ← (q ∙ ap (sound_queue most now) (lent k r)))
+    verdict_at : (k : ℕ) → k < 4 → get_or (verdicts most now r) k true ≡ lent_sound k
+    verdict_at k h =
+        by_four (λ j. get_or (verdicts most now r) j true ≡ sound_queue most now (part j r)) refl refl refl refl k h
+        ∙ ap (sound_queue most now) (sym (lent k r))
 
-      pub bad_queue : u ≡ false → sound_queues profile now r ≡ false
-      bad_queue f = split_next ∙ rw f
+    place : (k : ℕ) → k < 4 → get_or (range_with_len 0 4) k 0 ≡ k
+    place = by_four (λ k. get_or (range_with_len 0 4) k 0 ≡ k) refl refl refl refl
 
-      pub good_queue : u ≡ true → Judged profile most now r (k + 1)
-      good_queue f = split_next ∙ rw f
+    good : (u : Bool) → Each u → u ≡ true → (k : ℕ) → k < 4 → get_or (verdicts most now r) k true ≡ true
+    good true m e k h =
+        verdict_at k h ∙ subst (λ (j : ℕ). lent_sound j ≡ true) (place k h) (m k 0 (omega arith) h)
+    good false m e k h = cc
 
-    pub all_judged : (k : ℕ) → Judged profile most now r k → 4 ≤ k → sound_queues profile now r ≡ true
-    all_judged k e h = e ∙ ap all_of (done true (verdicts most now r) k h)
+    bad : (u : Bool) → Each u → u ≡ false → (k : ℕ) × (k < 4) × (get_or (verdicts most now r) k true ≡ false)
+    bad true m e = cc
+    bad false m e =
+        (m.0, m.1, verdict_at m.0 m.1 ∙ subst (λ (j : ℕ). lent_sound j ≡ false) (place m.0 m.1) (m.2 0))
+
+    pub all_sound : most ≡ most_ontime profile → (u : Bool) → Each u → u ≡ sound_queues profile now r
+    all_sound e u m =
+        and_is all_of (λ b. b) refl (λ _ _. refl) (verdicts most now r) true u (good u m) (bad u m) ∙ sym (judging most e)

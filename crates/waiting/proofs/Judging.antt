@@ -59,14 +59,6 @@ fits_next most now since n i c cs =
     let g : n - (i + 1) ≡ 0 = omega arith in
     rw (e, g, f))
 
--- a place that is used, and one that isn't
-pub used_place : (most now since : ℕ) (used : Bool) (c : Cell) → used ≡ true
-    → cell_sound most now since c ≡ place_sound most now since used c
-used_place most now since used c e = ap (λ (u : Bool). place_sound most now since u c) (sym e)
-
-pub unused_place : (most now since : ℕ) (used : Bool) (c : Cell) → used ≡ false → is_zero c ≡ place_sound most now since used c
-unused_place most now since used c e = ap (λ (u : Bool). place_sound most now since u c) (sym e)
-
 -- from place i on
 abbrev pub Fitting : (most now : ℕ) → Rows → (since i : ℕ) → Type 0
 Fitting most now r since i = sound_queue most now r ≡ fits most now since (drop i (cells r)) (len_in r - i)

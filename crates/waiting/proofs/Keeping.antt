@@ -1,14 +1,16 @@
 -- A queue rewritten in place, place by place: cleared behind its first n, and without those that are expired.
 use Prim.Native.Nat.{ℕ, zero, suc, ◌+◌, ◌-◌, ◌≤◌, ◌<◌}
 use mathlib.Core.Path.{◌≡◌, refl, ap, ap₂, sym, ◌∙◌, subst⁻¹}
-use mathlib.Core.Bool.{Bool, true, false, cond, ◌&&◌}
-use mathlib.Core.List.{List, [], ◌∷◌, ◌++◌, append-nil}
+use mathlib.Core.Bool.{Bool, true, false, cond}
+use mathlib.Core.List.{List, [], ◌∷◌, ◌++◌, map, append-nil}
 use native.Mathlib.Numerals.{add-one}
 use native.Mathlib.Omega.{arith}
 use lib.ListN.{length, take, drop, get_or, set, replicate, length-append, length-take, length-drop, take-append-drop}
-use lib.ListN.{drop_of_length-le}
 use lib.Seq.{take-suc, take-suc-set, drop-set-lt, drop-drop, drop_at, drop-append-add, get_or-drop, length-take-le}
-use lib.Seq.{drop-cons, get_or-take}
+use lib.Seq.{get_or-take}
+use Rattle.std.specs.List.{filter, range_with_len}
+use Rattle.std.proofs.lemmas.List.FromFn.{fill_by_all}
+use Rattle.std.proofs.lemmas.List.Recursion.{and_is}
 use Rattle.rules.specs.Profiles.{room}
 use Rattle.rules.proofs.Cases.{both}
 use Rattle.packing.specs.Packing.{filled, all_are}
@@ -196,9 +198,6 @@ pub record Shifting (n : ℕ) (r₀ : Rows) (i : ℕ) (r : Rows) : Type 0 where
   pub stored : Stored (filled room no_cell (drop 1 (take n (cells r₀)))) (cells r₀) i (cells r)
 
 module _ (n : ℕ) (r₀ : Rows) (s : Sized 1 r₀) (b : n ≤ room) where
-  pub shifting : Shifting n r₀ 0 r₀
-  shifting = record { sized = s; stored = refl }
-
   pub shifts_next : (i : ℕ) (r r' : Rows) → Shifting n r₀ i r → i < n - 1 → r' ≡ put_at i (cell_at r (i + 1)) r
       → Shifting n r₀ (i + 1) r'
   shifts_next i r r' c h e =
@@ -232,15 +231,6 @@ module _ (n : ℕ) (r₀ : Rows) (s : Sized 1 r₀) (b : n ≤ room) where
       ∙ ap (λ (k : ℕ). drop k (cells r₀)) (sym j)
       ∙ subst⁻¹ (λ (k : ℕ). ZeroFrom k r₀) y (tight_zero r₀ s t (omega arith))
 
-pub some : (n : ℕ) → (n ≡ 0 → ⊥) → 0 < n
-some zero h = absurd (h refl)
-some (suc n) h = omega arith
-
-pub none_shifted : (r : Rows) → Packed r → len_in r ≡ 0 → r ≡ packed (drop 1 (items r))
-none_shifted r t z =
-    t
-    ∙ ap packed (ap (λ (k : ℕ). take k (cells r)) z ∙ sym (ap (λ (k : ℕ). drop 1 (take k (cells r))) z))
-
 -- one more behind
 pub pushes : (r : Rows) (x : Cell) (m : ℕ) (ws ws' ts : List ℕ) → Sized 1 r → Packed r → len_in r < room → m ≡ len_in r
     → rows ws ts ≡ put_at m x r → ws' ≡ set ws 0 (m + 1) → rows ws' ts ≡ packed (items r ++ (x ∷ []))
@@ -258,50 +248,39 @@ pushes r x m ws ws' ts s t h z e f =
     ∙ ap₂ (λ (cs : List Cell) (i : ℕ). set cs i x) (cells_tight r t) (sym n)
     ∙ set-filled room no_cell (items r) x (omega (arith, n)))
 
--- the live ones counted
-module _ (now : ℕ) (r : Rows) (s : Sized 1 r) (left i : ℕ) (e : left ≡ length (alive now (take i (cells r)))) (h : i < room)
-    (x : Cell) (q : x ≡ cell_at r i) where
-  at_i : is_live now (get_or (cells r) i no_cell) ≡ is_live now x
-  at_i = ap (is_live now) (sym (q ∙ read_at r s i h))
+-- the live ones of a queue, from its places one by one: whether all are, and how many
+live_places : (now : ℕ) (f : ℕ → Cell) (is : List ℕ)
+    → length (filter (λ i. is_live now (f i)) is) ≡ length (alive now (map f is))
+unfolding alive
+live_places now f [] = refl
+live_places now f (i ∷ is) = go (is_live now (f i)) (live_places now f is)
+  where
+    go : (b : Bool) → length (filter (λ j. is_live now (f j)) is) ≡ length (alive now (map f is))
+        → length (cond b (i ∷ filter (λ j. is_live now (f j)) is) (filter (λ j. is_live now (f j)) is))
+        ≡ length (cond b (f i ∷ alive now (map f is)) (alive now (map f is)))
+    go true e = ap suc e
+    go false e = e
 
-  pub counts : is_live now x ≡ true → left + 1 ≡ length (alive now (take (i + 1) (cells r)))
-  counts f =
-      let a = alive_yes now (cells r) i (omega (arith, length-cells r s)) (at_i ∙ f) in
-      omega (
-        arith,
-        ap (λ (cs : List Cell). length cs) a,
-        length-append (alive now (take i (cells r))) (get_or (cells r) i no_cell ∷ []),
-      )
+module _ (now : ℕ) (r : Rows) (s : Sized 1 r) (b : len_in r ≤ room) where
+  item_at : (i : ℕ) → i < len_in r → get_or (items r) i no_cell ≡ cell_at r i
+  item_at i h = get_or-take (len_in r) (cells r) i no_cell h ∙ sym (read_at r s i (omega arith))
 
-  pub passes : is_live now x ≡ false → left ≡ length (alive now (take (i + 1) (cells r)))
-  passes f = e ∙ ap (λ (cs : List Cell). length cs) (sym (alive_no now (cells r) i (omega (arith, length-cells r s)) (at_i ∙ f)))
-
--- all of a queue are live if those from place i on are
-abbrev pub LiveTo : (now : ℕ) → Rows → (i : ℕ) → Type 0
-LiveTo now r i = all_are (is_live now) (items r) ≡ all_are (is_live now) (drop i (items r))
-
-module _ (now : ℕ) (r : Rows) (s : Sized 1 r) (b : len_in r ≤ room) (i : ℕ) (e : LiveTo now r i) where
-  module _ (h : i < len_in r) (x : Cell) (q : x ≡ cell_at r i) where
-    item_at : get_or (items r) i no_cell ≡ x
-    item_at = get_or-take (len_in r) (cells r) i no_cell h ∙ sym (q ∙ read_at r s i (omega arith))
-
-    next : all_are (is_live now) (items r) ≡ (is_live now x && all_are (is_live now) (drop (i + 1) (items r)))
-    unfolding all_are
-    next =
-        e
-        ∙ ap (all_are (is_live now)) (drop-cons (items r) i no_cell (omega (arith, length-items r s b)))
-        ∙ rw (item_at, add-one i)
-
-    pub one-expired : is_live now x ≡ false → all_are (is_live now) (items r) ≡ false
-    one-expired f = next ∙ ap (λ (a : Bool). a && all_are (is_live now) (drop (i + 1) (items r))) f
-
-    pub one_live : is_live now x ≡ true → LiveTo now r (i + 1)
-    one_live f = next ∙ ap (λ (a : Bool). a && all_are (is_live now) (drop (i + 1) (items r))) f
-
-  pub all_live : len_in r ≤ i → all_are (is_live now) (items r) ≡ true
+  pub all_live : (u : Bool) → (u ≡ true → (i : ℕ) → i < len_in r → is_live now (cell_at r i) ≡ true)
+      → (u ≡ false → (i : ℕ) × (i < len_in r) × (is_live now (cell_at r i) ≡ false)) → u ≡ all_are (is_live now) (items r)
   unfolding all_are
-  all_live h =
-      e ∙ ap (all_are (is_live now)) (drop_of_length-le (items r) {i = i} (omega (arith, length-items r s b)))
+  all_live u good bad =
+      let n = length-items r s b in
+      and_is (all_are (is_live now)) (is_live now) refl (λ _ _. refl) (items r) no_cell u
+      (λ e i h. ap (is_live now) (item_at i (omega arith)) ∙ good e i (omega arith))
+      (λ e.
+      let f = bad e in
+      (f.0, omega (arith, f.1), ap (is_live now) (item_at f.0 f.1) ∙ f.2))
+
+  pub count_alive : length (filter (λ i. is_live now (cell_at r i)) (range_with_len 0 (len_in r))) ≡ length (alive now (items r))
+  count_alive =
+      live_places now (cell_at r) (range_with_len 0 (len_in r))
+      ∙ ap (λ (cs : List Cell). length (alive now cs))
+      (sym (fill_by_all (cell_at r) (items r) (len_in r) no_cell (length-items r s b) item_at))
 
 -- where all are live, the rows are those of the live ones already
 alive-all : (now : ℕ) (cs : List Cell) → all_are (is_live now) cs ≡ true → alive now cs ≡ cs

@@ -18,7 +18,7 @@ use Rattle.model.specs.Queues.{own_packet, queue_sound, queue_rules, choice}
 use Rattle.model.specs.Claims.{All}
 use Rattle.waiting.specs.declared.Cell.{Cell}
 use Rattle.waiting.specs.declared.Found.{Found}
-use Rattle.waiting.specs.declared.Found.TheVariants.{Nothing, At}
+use Rattle.std.proofs.Common.{Option, Some, None}
 use Rattle.waiting.specs.Layout.{Rows, Sized, packet_in, cell_of, queues, laid, Held, changed}
 use Rattle.waiting.specs.Layout.{own_packets, cells_of, four_of, waiting_in, rows_for, is_live, alive}
 use Rattle.waiting.specs.Layout.{count_in, first_or, found_from}
@@ -191,14 +191,14 @@ module _ (r : Rows) where
   rows_popped k b = four_popped _ _ _ _ k b
 
 -- what a find means to the model: the packet, and the lists that it leaves
-abbrev pub meant : Four Packet → Found → Chosen (Four Packet)
-meant q Nothing = nothing
-meant q (At k c) = chosen (packet_in k c) (change k (drop 1) q)
+abbrev pub meant : Four Packet → Option Found → Chosen (Four Packet)
+meant q None = nothing
+meant q (Some f) = chosen (packet_in f.queue f.cell) (change f.queue (drop 1) q)
 
 -- one of the four queues
-abbrev pub InQueues : Found → Type 0
-InQueues Nothing = Unit {0}
-InQueues (At k c) = k < 4
+abbrev pub InQueues : Option Found → Type 0
+InQueues None = Unit {0}
+InQueues (Some f) = f.queue < 4
 
 alive-alive : (now : ℕ) (cs : List Cell) → alive now (alive now cs) ≡ alive now cs
 unfolding alive
@@ -208,8 +208,8 @@ alive-alive now (c ∷ cs) =
 
 first_four : (a b c d : List Cell)
     → (choice (four_of (a ∷ b ∷ c ∷ d ∷ []))
-    ≡ meant (four_of (a ∷ b ∷ c ∷ d ∷ [])) (first_or 0 a (first_or 1 b (first_or 2 c (first_or 3 d Nothing)))))
-    × InQueues (first_or 0 a (first_or 1 b (first_or 2 c (first_or 3 d Nothing))))
+    ≡ meant (four_of (a ∷ b ∷ c ∷ d ∷ [])) (first_or 0 a (first_or 1 b (first_or 2 c (first_or 3 d None)))))
+    × InQueues (first_or 0 a (first_or 1 b (first_or 2 c (first_or 3 d None))))
 unfolding choice four_of first_or
 first_four (x ∷ a) b c d = (refl, omega arith)
 first_four [] (x ∷ b) c d = (refl, omega arith)
@@ -219,7 +219,7 @@ first_four [] [] [] [] = (refl, tt)
 
 found_four : (now : ℕ) (a b c d : List Cell)
     → found_from now 0 (map (alive now) (a ∷ b ∷ c ∷ d ∷ []))
-    ≡ first_or 0 (alive now a) (first_or 1 (alive now b) (first_or 2 (alive now c) (first_or 3 (alive now d) Nothing)))
+    ≡ first_or 0 (alive now a) (first_or 1 (alive now b) (first_or 2 (alive now c) (first_or 3 (alive now d) None)))
 unfolding found_from
 found_four now a b c d = rw (alive-alive now a, alive-alive now b, alive-alive now c, alive-alive now d)
 
@@ -229,7 +229,7 @@ Meets now qs = (choice (four_of qs) ≡ meant (four_of qs) (found_from now 0 qs)
 
 meets_four : (now : ℕ) (a b c d : List Cell) → Meets now (map (alive now) (a ∷ b ∷ c ∷ d ∷ []))
 meets_four now a b c d =
-    subst⁻¹ (λ (x : Found). (choice (four_of (map (alive now) (a ∷ b ∷ c ∷ d ∷ [])))
+    subst⁻¹ (λ (x : Option Found). (choice (four_of (map (alive now) (a ∷ b ∷ c ∷ d ∷ [])))
     ≡ meant (four_of (map (alive now) (a ∷ b ∷ c ∷ d ∷ []))) x) × InQueues x) (found_four now a b c d)
     (first_four (alive now a) (alive now b) (alive now c) (alive now d))
 
@@ -237,12 +237,12 @@ meets_live : (now : ℕ) (r : Rows) → Meets now (map (alive now) (queues r))
 unfolding queues
 meets_live now r = meets_four now _ _ _ _
 
-pub chooses : (now : ℕ) (r₀ r : Rows) (f : Found) → Held r₀ → r ≡ laid (map (alive now) (queues r₀))
+pub chooses : (now : ℕ) (r₀ r : Rows) (f : Option Found) → Held r₀ → r ≡ laid (map (alive now) (queues r₀))
     → f ≡ found_from now 0 (queues r)
     → (choice (waiting_in r) ≡ meant (waiting_in r) f) × InQueues f
 chooses now r₀ r f h e g =
     let q : queues r ≡ map (alive now) (queues r₀) =
     ap queues e ∙ queues-laid (map (alive now) (queues r₀)) (length-map (queues r₀) (alive now) ∙ four-queues r₀)
     (live_short now r₀ h) in
-    subst⁻¹ (λ (x : Found). (choice (waiting_in r) ≡ meant (waiting_in r) x) × InQueues x) g
+    subst⁻¹ (λ (x : Option Found). (choice (waiting_in r) ≡ meant (waiting_in r) x) × InQueues x) g
     (subst⁻¹ (Meets now) q (meets_live now r₀))

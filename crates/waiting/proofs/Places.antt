@@ -6,7 +6,7 @@ use mathlib.Core.List.{List, [], ◌∷◌, map}
 use native.Mathlib.Omega.{arith}
 use lib.ListN.{length, take, drop, get_or, set, length-map, length-set}
 use lib.Dec.{eqb}
-use lib.Seq.{get_or-drop, set-get_or}
+use lib.Seq.{get_or-drop}
 use Rattle.rules.specs.Profiles.{room}
 use Rattle.packing.specs.Packing.{filled, all_are, is_unused}
 use Rattle.packing.proofs.Packing.{length-filled, list_filled}
@@ -181,18 +181,6 @@ module _ (r : Rows) (s : Sized 1 r) where
       (head_tail r.words 15 s.words
       ∙ ap (λ (l : List ℕ). len_in r ∷ l) (words_triples (drop 1 r.words) r.came tail_sized))
       (came_triples (drop 1 r.words) r.came)
-
--- a place that is given what stands there
-pub unmoved : (r : Rows) (i : ℕ) → r ≡ put_at i (cell_at r i) r
-unmoved r i =
-    let ws = r.words in
-    let a = 1 + 3 * i in
-    let lifetime : List ℕ → List ℕ = λ l. set l (a + 2) (get_or ws (a + 2) 0) in
-    let ontime : List ℕ → List ℕ = λ l. set l (a + 1) (get_or ws (a + 1) 0) in
-    sym (ap₂ (λ (l ts : List ℕ). rows l ts)
-    (ap (λ (l : List ℕ). lifetime (ontime l)) (set-get_or ws a 0) ∙ ap lifetime (set-get_or ws (a + 1) 0)
-    ∙ set-get_or ws (a + 2) 0)
-    (set-get_or r.came i 0))
 
 pub len_sized : (n : ℕ) (r : Rows) → Sized 1 r → Sized 1 (with_len n r)
 len_sized n r s = record { words = length-set r.words 0 n ∙ s.words; came = s.came }

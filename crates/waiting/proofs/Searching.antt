@@ -8,9 +8,9 @@ use lib.ListN.{length, take, drop, length-append, length-take, length-drop, leng
 use Rattle.rules.specs.Profiles.{room}
 use Rattle.packing.proofs.Walk.{next, done, next_of, done_of}
 use Rattle.waiting.specs.declared.Cell.{Cell}
-use Rattle.waiting.specs.declared.Found.TheVariants.{Nothing, At}
+use Rattle.std.proofs.Common.{Some, None}
 use Rattle.waiting.specs.Layout.{Rows, Sized, no_cell, cell_at, len_in, cells, items, packed, queues, queue_of, laid, Held}
-use Rattle.waiting.specs.Layout.{is_live, alive, count_in, changed, first_or, found_from}
+use Rattle.waiting.specs.Layout.{is_live, alive, count_in, changed, found_at, first_or, found_from}
 use Rattle.waiting.proofs.Places.{length-cells, read_at}
 use Rattle.waiting.proofs.Keeping.{alive-length}
 use Rattle.waiting.proofs.Wholes.{by_four, Short, queues_short, queues-laid, four-queues, held-laid, lent_rows, back_rows}
@@ -66,9 +66,6 @@ unfolding queues count_in
 twenty r s = let h = queues_short r s in omega (arith, h.0, h.1.0, h.1.1.0, h.1.1.1.0)
 
 module _ (now : ℕ) (r₀ : Rows) (h : Held r₀) where
-  pub expiring : Expiring now r₀ 0 0 r₀
-  expiring = record { places = h.tight; sum = omega arith }
-
   module _ (k gone : ℕ) (r : Rows) (b : k < 4) (e : Expiring now r₀ k gone r) where
     short_now : Short (mixed now k (queues r₀))
     unfolding queues
@@ -119,18 +116,12 @@ module _ (now : ℕ) (r₀ : Rows) (h : Held r₀) where
   unfolding queues
   live_short = short_all now _ _ _ _ (queues_short r₀ h.size)
 
-  pub live_held : Held (laid (map (alive now) (queues r₀)))
-  live_held = held-laid (map (alive now) (queues r₀)) (length-map (queues r₀) (alive now) ∙ four-queues r₀) live_short
-
   pub all-expired : (k gone : ℕ) (r : Rows) → k ≡ 4 → Expiring now r₀ k gone r
       → (gone ≡ count_in (queues r₀) - count_in (map (alive now) (queues r₀))) × (r ≡ laid (map (alive now) (queues r₀)))
   all-expired k gone r z e =
       let m : mixed now k (queues r₀) ≡ map (alive now) (queues r₀) =
       ap (λ (n : ℕ). mixed now n (queues r₀)) z ∙ all_mixed in
       (omega (arith, e.sum, ap count_in m), e.places ∙ ap laid m)
-
-  pub expired_sized : (k gone : ℕ) (r : Rows) → k ≡ 4 → Expiring now r₀ k gone r → Sized 4 r
-  expired_sized k gone r z e = subst⁻¹ (Sized 4) (all-expired k gone r z e).1 live_held.size
 
 -- the search: nothing was found before queue k, and in it before place i
 abbrev pub Sought : (now : ℕ) → Rows → (k : ℕ) → Type 0
@@ -154,7 +145,7 @@ module _ (now : ℕ) (r : Rows) (h : Held r) (k : ℕ) (b : k < 4) where
         next_of no_cell (cells (lent_rows k r)) (len_in (lent_rows k r)) i l (omega (arith, length-cells (lent_rows k r) s))
         ∙ ap (λ (y : Cell). y ∷ drop (i + 1) (items (lent_rows k r))) (sym (q ∙ read_at (lent_rows k r) s i (omega arith)))
 
-    pub found_here : is_live now x ≡ true → found_from now 0 (queues r) ≡ At k x
+    pub found_here : is_live now x ≡ true → found_from now 0 (queues r) ≡ Some (found_at k x)
     unfolding alive first_or
     found_here f = e ∙ rw (split_cell, f)
 
@@ -170,6 +161,6 @@ module _ (now : ℕ) (r : Rows) (h : Held r) (k : ℕ) (b : k < 4) where
       ∙ rw (done_of no_cell (cells (lent_rows k r)) (len_in (lent_rows k r)) i l
       (omega (arith, length-cells (lent_rows k r) (lent_sized r h k b))))
 
-pub none_found : (now : ℕ) (r : Rows) (k : ℕ) → Sought now r k → 4 ≤ k → found_from now 0 (queues r) ≡ Nothing
+pub none_found : (now : ℕ) (r : Rows) (k : ℕ) → Sought now r k → 4 ≤ k → found_from now 0 (queues r) ≡ None
 unfolding found_from
 none_found now r k e h = e ∙ rw (done [] (queues r) k (omega (arith, four-queues r)))

@@ -7,10 +7,10 @@ use lib.ListN.{drop, set, replicate}
 use Rattle.rules.specs.Profiles.{within}
 use Rattle.packing.specs.Packing.{filled, all_are, padded}
 use Rattle.waiting.specs.declared.Cell.{Cell}
-use Rattle.waiting.specs.declared.Found.TheVariants.{Nothing, At}
+use Rattle.std.proofs.Common.{Some, None}
 use Rattle.waiting.specs.Layout.{Rows, rows, Sized, cell, triples, words_of, items, packed, Packed, ZeroFrom, tidy_queue}
 use Rattle.waiting.specs.Layout.{part, flat, laid, queues, changed, four_of, waiting_in, packet_in, tidy, alive, count_in}
-use Rattle.waiting.specs.Layout.{cells_sound, sound_queue, Held, first_or, found_from}
+use Rattle.waiting.specs.Layout.{cells_sound, sound_queue, Held, found_at, first_or, found_from}
 
 -- on-time 1,000 for 50,000 µs, come at 200; and 500 for 60 s, come at 300
 abbrev early : Cell
@@ -158,18 +158,18 @@ front_gone : changed 3 (drop 1) four-queues ≡ [] ∷ (early ∷ []) ∷ [] ∷
 front_gone = refl
 
 -- "the oldest of the lowest-numbered non-empty queue": at 50,199 it is that of queue 1; at 50,200 that one is expired
-lowest_first : found_from 50199 0 four-queues ≡ At 1 early
+lowest_first : found_from 50199 0 four-queues ≡ Some (found_at 1 early)
 unfolding found_from first_or alive
 lowest_first = refl
 
-next_queue : found_from 50200 0 four-queues ≡ At 3 late
+next_queue : found_from 50200 0 four-queues ≡ Some (found_at 3 late)
 unfolding found_from first_or alive
 next_queue = refl
 
-behind_an_expired : found_from 50200 0 ([] ∷ [] ∷ (early ∷ late ∷ []) ∷ (late ∷ []) ∷ []) ≡ At 2 late
+behind_an_expired : found_from 50200 0 ([] ∷ [] ∷ (early ∷ late ∷ []) ∷ (late ∷ []) ∷ []) ≡ Some (found_at 2 late)
 unfolding found_from first_or alive
 behind_an_expired = refl
 
-none_live : found_from 50200 0 ((early ∷ []) ∷ [] ∷ (early ∷ early ∷ []) ∷ [] ∷ []) ≡ Nothing
+none_live : found_from 50200 0 ((early ∷ []) ∷ [] ∷ (early ∷ early ∷ []) ∷ [] ∷ []) ≡ None
 unfolding found_from first_or alive
 none_live = refl

@@ -2,7 +2,7 @@
 -- and lifetime of five places, the oldest packet first; and five times: when those came. What is unused is
 -- zero (document 01, "State and calls").
 use Rattle.std.specs.Prelude.{ℕ, ◌+◌, ◌*◌, ◌-◌, ◌≡◌, Bool, true, cond, ◌&&◌, List, [], ◌∷◌, ◌++◌, map, leb}
-use Rattle.std.specs.Prelude.{ltb, eqb, length, take, drop, get_or, set, replicate}
+use Rattle.std.specs.Prelude.{ltb, eqb, length, take, drop, get_or, set, replicate, Option, Some, None}
 use Rattle.rules.specs.Tests.{all_of}
 use Rattle.rules.specs.Profiles.{room, within, lifetime_allowed}
 use Rattle.packing.specs.Packing.{filled, padded}
@@ -11,7 +11,6 @@ use Rattle.model.specs.Fours.{Four, four}
 use Rattle.model.specs.Queues.{queue_rules}
 use Rattle.waiting.specs.declared.Cell.{Cell}
 use Rattle.waiting.specs.declared.Found.{Found}
-use Rattle.waiting.specs.declared.Found.TheVariants.{Nothing, At}
 
 -- the two rows, or the same part of each
 pub record Rows : Type 0 where
@@ -198,10 +197,13 @@ count_in [] = 0
 count_in (q ∷ qs) = length q + count_in qs
 
 -- the first live one of the lowest-numbered queue that has one
-unfoldable pub first_or : (k : ℕ) → List Cell → Found → Found
-first_or k [] other = other
-first_or k (c ∷ cs) other = At k c
+abbrev pub found_at : (queue : ℕ) → Cell → Found
+found_at queue c = record { queue = queue; cell = c }
 
-unfoldable pub found_from : (now k : ℕ) → List (List Cell) → Found
-found_from now k [] = Nothing
+unfoldable pub first_or : (k : ℕ) → List Cell → Option Found → Option Found
+first_or k [] other = other
+first_or k (c ∷ cs) other = Some (found_at k c)
+
+unfoldable pub found_from : (now k : ℕ) → List (List Cell) → Option Found
+found_from now k [] = None
 found_from now k (q ∷ qs) = first_or k (alive now q) (found_from now (k + 1) qs)

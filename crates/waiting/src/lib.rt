@@ -2,6 +2,8 @@
 // wait; then the id, the on-time and the lifetime of each of five places, the oldest first; and when each
 // came. Places that are not used are zero. Four queues stand one behind the other, queue 0 first. What nearly
 // every call does counts in 32 bits: in 64, a small processor takes half as many instructions again.
+// The words and the times are two parameters, as the C interface lends two rows: a struct of two `&mut` would
+// owe a clause for each reference in every contract.
 #![tactic(auto)]
 
 ghost use Rattle.std.specs.Prelude.{◌≡◌, ◌&&◌, [], ◌∷◌, ◌++◌, map, ◌<◌, ◌≤◌, ◌-◌, length, take, drop, set};
@@ -20,8 +22,9 @@ pub const PLACES: usize = 5;
 
 pub const WORDS: usize = 16;
 
-// What stands in a place: a packet but for its priority, which is its queue's number.
-#[derive(Clone, Copy)]
+// What stands in a place: a packet but for its priority, which is its queue's number. No Packet: the rows
+// that C lends have no place for a priority.
+#[derive(Clone, Copy, PartialEq, Eq, Default)]
 pub struct Cell {
     pub id: u32,
     pub ontime: u32,
@@ -29,19 +32,15 @@ pub struct Cell {
     pub arrival: u64,
 }
 
-const NO_CELL: Cell = Cell {
-    id: 0,
-    ontime: 0,
-    lifetime: 0,
-    arrival: 0,
-};
-
 // What a search finds: a queue's number, and its first live packet.
 #[derive(Clone, Copy)]
-pub enum Found {
-    Nothing,
-    At(usize, Cell),
+pub struct Found {
+    pub queue: usize,
+    pub cell: Cell,
 }
+
+// The rows of one queue are lent as slices, whose sizes are asked for. `first_chunk_mut` gives arrays, in an
+// Option: after `unwrap` no proof knows what was written, and a `match` has an arm that is never taken.
 
 // How many wait.
 fn len(words: &[u32]) -> usize
@@ -93,27 +92,15 @@ fn put(words: &mut [u32], came: &mut [u64], i: usize, c: Cell)
 fn is_zero(c: Cell) -> bool
     ensures { result ≡ is_zero c }
 {
-    if c.id != 0 {
-        return false;
-    }
-    if c.ontime != 0 {
-        return false;
-    }
-    if c.lifetime != 0 {
-        return false;
-    }
-    c.arrival == 0
+    c == Cell::default()
 }
 
-// Whether a packet is not expired.
+// Whether a packet is not expired. As `checks::is_unexpired`, of a cell: one for both would take its two
+// numbers, and read no plainer.
 fn is_live(c: Cell, time: u64) -> bool
     ensures { result ≡ is_live time c }
 {
-    let mut age: u64 = 0;
-    if c.arrival < time {
-        age = time - c.arrival;
-    }
-    age < c.lifetime as u64
+    time.saturating_sub(c.arrival) < u64::from(c.lifetime)
 }
 
 // Whether a packet is within its limits and came no earlier than the one before it.
@@ -142,15 +129,14 @@ fn is_place_sound(c: Cell, used: bool, most: u32, time: u64, since: u64) -> bool
     is_zero(c)
 }
 
-// Whether all times are 0. All are read, with no way out before the end, so that many are read at once.
+// Whether all times are 0. All are read, with no way out before the end, so that many are read at once. The
+// same of 32 bits is `machine::are_zero`: one for both wants a trait with laws, and is longer than the two.
 fn are_times_zero(came: &[u64]) -> bool
     ensures { result ≡ all_are is_unused came.now }
 {
     let mut bits: u64 = 0;
-    let mut i: usize = 0;
-    while i < came.len() {
-        bits = bits | came[i];
-        i += 1;
+    for t in came {
+        bits |= *t;
     }
     bits == 0
 }
@@ -179,14 +165,12 @@ fn is_queue_sound(words: &[u32], came: &[u64], most: u32, time: u64) -> bool
         return false;
     }
     let mut since: u64 = 0;
-    let mut i: usize = 0;
-    while i < PLACES {
+    for i in 0..PLACES {
         let c = cell_at(words, came, i);
         if !is_place_sound(c, i < n, most, time, since) {
             return false;
         }
         since = c.arrival;
-        i += 1;
     }
     true
 }
@@ -200,10 +184,8 @@ fn clear(words: &mut [u32], came: &mut [u64], n: usize, m: usize)
     ensures { rows words.new came.new
         ≡ packed (take n (cells (rows words.old came.old))) }
 {
-    let mut i = n;
-    while i < m {
-        put(words, came, i, NO_CELL);
-        i += 1;
+    for i in n..m {
+        put(words, came, i, Cell::default());
     }
     put_len(words, n);
 }
@@ -230,15 +212,7 @@ fn are_live(words: &[u32], came: &[u64], time: u64) -> bool
     requires came_bound { len_in (rows words.now came.now) ≤ room }
     ensures { result ≡ all_are (is_live time) (items (rows words.now came.now)) }
 {
-    let n = words[0];
-    let mut i: u32 = 0;
-    while i < n {
-        if !is_live(cell_at(words, came, i as usize), time) {
-            return false;
-        }
-        i += 1;
-    }
-    true
+    (0..words[0]).all(|i| is_live(cell_at(words, came, i as usize), time))
 }
 
 // A queue without its expired packets; how many went. Mostly none is expired, and then nothing is written.
@@ -256,13 +230,11 @@ fn expire(words: &mut [u32], came: &mut [u64], time: u64) -> usize
     }
     let n = len(words);
     let mut left: usize = 0;
-    let mut i: usize = 0;
-    while i < n {
+    for i in 0..n {
         if is_live(cell_at(words, came, i), time) {
             move_to(words, came, i, left);
             left += 1;
         }
-        i += 1;
     }
     clear(words, came, left, n);
     n - left
@@ -294,10 +266,8 @@ fn pop(words: &mut [u32], came: &mut [u64])
         return;
     }
     let left = (n - 1) as u32;
-    let mut i: u32 = 0;
-    while i < left {
+    for i in 0..left {
         move_to(words, came, i as usize + 1, i as usize);
-        i += 1;
     }
     clear(words, came, left as usize, n);
 }
@@ -308,38 +278,26 @@ fn count_live(words: &[u32], came: &[u64], time: u64) -> usize
     requires came_bound { len_in (rows words.now came.now) ≤ room }
     ensures { result ≡ length (alive time (items (rows words.now came.now))) }
 {
-    let n = len(words);
-    let mut left: usize = 0;
-    let mut i: usize = 0;
-    while i < n {
-        if is_live(cell_at(words, came, i), time) {
-            left += 1;
-        }
-        i += 1;
-    }
-    left
+    (0..len(words))
+        .filter(|i| is_live(cell_at(words, came, *i), time))
+        .count()
 }
 
 // Whether all four queues are sound.
-pub fn are_queues_sound(words: &[u32], came: &[u64], profile: u32, time: u64) -> bool
-    requires { Sized 4 (rows words.now came.now) }
+pub fn are_queues_sound(words: &[u32; 64], came: &[u64; 20], profile: u32, time: u64) -> bool
     ensures { result ≡ sound_queues profile time (rows words.now came.now) }
 {
     let most = rules::most_ontime(profile);
-    let mut k: usize = 0;
-    while k < QUEUES {
+    (0..QUEUES).all(|k| {
         let a = WORDS * k;
         let b = PLACES * k;
-        if !is_queue_sound(&words[a..a + WORDS], &came[b..b + PLACES], most, time) {
-            return false;
-        }
-        k += 1;
-    }
-    true
+        is_queue_sound(&words[a..a + WORDS], &came[b..b + PLACES], most, time)
+    })
 }
 
-// How many wait in queue k.
-pub fn len_of(words: &[u32], came: &[u64], k: usize) -> usize
+// How many wait in queue k. Here and below a queue's number is an offer's priority, which C hands in: so its
+// bound is a clause and no type.
+pub fn len_of(words: &[u32; 64], came: &[u64; 20], k: usize) -> usize
     requires held { Held (rows words.now came.now) }
     requires k_bound { k < 4 }
     ensures { result ≡ length (queue_of (queues (rows words.now came.now)) k) }
@@ -349,19 +307,15 @@ pub fn len_of(words: &[u32], came: &[u64], k: usize) -> usize
 }
 
 // How many wait.
-pub fn count(words: &[u32], came: &[u64]) -> u64
+pub fn count(words: &[u32; 64], came: &[u64; 20]) -> u64
     requires { Held (rows words.now came.now) }
     ensures { result ≡ count_in (queues (rows words.now came.now)) }
 {
-    let sum = len_of(words, came, 0)
-        + len_of(words, came, 1)
-        + len_of(words, came, 2)
-        + len_of(words, came, 3);
-    sum as u64
+    (0..QUEUES).map(|k| len_of(words, came, k) as u64).sum()
 }
 
 // How many of queue k are not expired.
-pub fn count_live_of(words: &[u32], came: &[u64], k: usize, time: u64) -> usize
+pub fn count_live_of(words: &[u32; 64], came: &[u64; 20], k: usize, time: u64) -> usize
     requires held { Held (rows words.now came.now) }
     requires k_bound { k < 4 }
     ensures { result ≡ length (alive time
@@ -373,7 +327,7 @@ pub fn count_live_of(words: &[u32], came: &[u64], k: usize, time: u64) -> usize
 }
 
 // Every queue without its expired packets; how many went.
-pub fn expire_all(words: &mut [u32], came: &mut [u64], time: u64) -> u64
+pub fn expire_all(words: &mut [u32; 64], came: &mut [u64; 20], time: u64) -> u64
     requires { Held (rows words.old came.old) }
     ensures gone { result ≡ count_in (queues (rows words.old came.old))
         - count_in (map (alive time) (queues (rows words.old came.old))) }
@@ -381,18 +335,16 @@ pub fn expire_all(words: &mut [u32], came: &mut [u64], time: u64) -> u64
         ≡ laid (map (alive time) (queues (rows words.old came.old))) }
 {
     let mut gone: u64 = 0;
-    let mut k: u32 = 0;
-    while (k as usize) < QUEUES {
+    for k in 0..QUEUES as u32 {
         let a = WORDS * k as usize;
         let b = PLACES * k as usize;
         gone += expire(&mut words[a..a + WORDS], &mut came[b..b + PLACES], time) as u64;
-        k += 1;
     }
     gone
 }
 
 // A packet at the back of queue k.
-pub fn push_to(words: &mut [u32], came: &mut [u64], k: usize, c: Cell)
+pub fn push_to(words: &mut [u32; 64], came: &mut [u64; 20], k: usize, c: Cell)
     requires held { Held (rows words.old came.old) }
     requires k_bound { k < 4 }
     requires k_len_bound { length (queue_of (queues (rows words.old came.old)) k) < room }
@@ -405,7 +357,7 @@ pub fn push_to(words: &mut [u32], came: &mut [u64], k: usize, c: Cell)
 }
 
 // The front packet of queue k taken away.
-pub fn pop_from(words: &mut [u32], came: &mut [u64], k: usize)
+pub fn pop_from(words: &mut [u32; 64], came: &mut [u64; 20], k: usize)
     requires held { Held (rows words.old came.old) }
     requires k_bound { k < 4 }
     ensures { rows words.new came.new
@@ -416,29 +368,26 @@ pub fn pop_from(words: &mut [u32], came: &mut [u64], k: usize)
     pop(&mut words[a..a + WORDS], &mut came[b..b + PLACES]);
 }
 
-// The first live packet of the lowest-numbered queue that has one.
-pub fn choose(words: &[u32], came: &[u64], time: u64) -> Found
+// The first live packet of the lowest-numbered queue that has one. Two loops, left by a label: document 01
+// names this form.
+pub fn choose(words: &[u32; 64], came: &[u64; 20], time: u64) -> Option<Found>
     requires { Held (rows words.now came.now) }
     ensures { result ≡ found_from time 0 (queues (rows words.now came.now)) }
 {
-    let mut found = Found::Nothing;
-    let mut k: usize = 0;
-    'search: while k < QUEUES {
+    let mut found = None;
+    'search: for k in 0..QUEUES {
         let a = WORDS * k;
         let b = PLACES * k;
         let q = &words[a..a + WORDS];
         let t = &came[b..b + PLACES];
         let n = len(q);
-        let mut i: usize = 0;
-        while i < n {
+        for i in 0..n {
             let c = cell_at(q, t, i);
             if is_live(c, time) {
-                found = Found::At(k, c);
+                found = Some(Found { queue: k, cell: c });
                 break 'search;
             }
-            i += 1;
         }
-        k += 1;
     }
     found
 }

@@ -7,7 +7,6 @@ use borrow.Author.Tests.{le-leb, lt-leb}
 use lib.ListN.{length}
 use Rattle.io.proofs.Counting.{prefix_len_of_le}
 use Rattle.gate.specs.declared.State.{State}
-use Rattle.gate.specs.Layout.{state_with}
 use Rattle.records.specs.Buffers.{Put}
 use Rattle.records.proofs.Buffers.{next}
 use Rattle.lines.proofs.Lengths.{last_le}
@@ -24,9 +23,7 @@ record Did (given : State) (input was out : List ℕ) (used end : ℕ) : Type 0 
 
 pub last_line-end-requires : goal.last_line-end-requires
 last_line-end-requires c =
-    let given : State =
-    state_with c.args.head c.args.queues.now c.args.came.now c.args.air.now c.args.loads.now
-    c.args.above.now c.args.waits.now in
+    let given = c.args.state.now in
     let did : Did given c.args.input.now c.args.out.now c.block-done.new.out c.block-done.result.used c.block-done.result.end =
     let n : length c.args.out.now ≡ block_room = omega arith in
     let e : c.block-done.result.used ≡ records_done (length c.args.input.now) block_room =
@@ -38,9 +35,7 @@ last_line-end-requires c =
 
 pub returns-then-not-failed : goal.returns-then-not-failed
 returns-then-not-failed c =
-    let given : State =
-    state_with c.args.head c.args.queues.now c.args.came.now c.args.air.now c.args.loads.now
-    c.args.above.now c.args.waits.now in
+    let given = c.args.state.now in
     let did : Did given c.args.input.now c.args.out.now c.block-done.new.out c.block-done.result.used c.block-done.result.end =
     let n : length c.args.out.now ≡ block_room = omega arith in
     let e : c.block-done.result.used ≡ records_done (length c.args.input.now) block_room =
@@ -75,9 +70,7 @@ returns-then-not-failed c =
 
 pub returns-else-not-more : goal.returns-else-not-more
 returns-else-not-more c =
-    let given : State =
-    state_with c.args.head c.args.queues.now c.args.came.now c.args.air.now c.args.loads.now
-    c.args.above.now c.args.waits.now in
+    let given = c.args.state.now in
     let did : Did given c.args.input.now c.args.out.now c.block-done.new.out c.block-done.result.used c.block-done.result.end =
     let n : length c.args.out.now ≡ block_room = omega arith in
     let e : c.block-done.result.used ≡ records_done (length c.args.input.now) block_room =

@@ -1,5 +1,4 @@
 -- What is left of the closed time is the difference, or nothing.
-use native.Mathlib.Omega.{arith}
 use borrow.Author.Tests.{eq-eqb, ne_eqb}
 use Rattle.checks.specs.Checks.{left_at}
 use Rattle.checks.proofs.left_of.Goals as goal
@@ -8,10 +7,6 @@ pub returns-then-l-ne1 : goal.returns-then-l-ne1
 unfolding left_at
 returns-then-l-ne1 c = simp (ne_eqb _ _ c.if-l-ne1.true)
 
-pub returns-then-passed-closed : goal.returns-then-passed-closed
-unfolding left_at
-returns-then-passed-closed c = simp (eq-eqb _ _ c.if-l-ne1.false)
-
 pub returns : goal.returns
 unfolding left_at
-returns c = rw (eq-eqb _ _ c.if-l-ne1.false) (omega (arith, c.if-passed-closed.false))
+returns c = simp (eq-eqb _ _ c.if-l-ne1.false) c.saturating_sub.ensures

@@ -1,6 +1,7 @@
 -- One arm for each profile, each the wait of its own leaf.
-use borrow.Author.Tests.{eq-eqb, ne_eqb}
+use borrow.Author.Tests.{eq-eqb}
 use Rattle.rules.proofs.Profiles.{duty_within}
+use Rattle.rules.proofs.Tests.{tests}
 use Rattle.control.specs.Wait.{wait_with}
 use Rattle.control.proofs.wait.Goals as goal
 
@@ -33,6 +34,4 @@ returns-in-4 c =
 
 pub returns-in_default : goal.returns-in_default
 unfolding wait_with
-returns-in_default c =
-    let r = c.in_default.in_default-own.rest in
-    simp (ne_eqb _ _ r.0.0.0.1, ne_eqb _ _ r.0.0.1, ne_eqb _ _ r.0.1, ne_eqb _ _ r.1)
+returns-in_default c = search tests

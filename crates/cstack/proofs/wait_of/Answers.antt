@@ -9,38 +9,29 @@ use Rattle.rules.specs.Profiles.{by_profile}
 use Rattle.rules.proofs.Cases.{split, within-true}
 use Rattle.rules.proofs.Tests.{tested}
 use Rattle.control.specs.Wait.{wait_with}
-use Rattle.cstack.specs.Tables.{WaitArguments}
-use Rattle.cstack.proofs.Judged.{WaitJudged, wait_judged}
+use Rattle.cstack.proofs.Judged.{wait_judged}
 use Rattle.cstack.proofs.wait_of.Goals as goal
 
 pub adaptive_wait-requires : goal.adaptive_wait-requires
 adaptive_wait-requires c =
-    let given : WaitArguments =
-    let a = c.args in
-    record { profile = a.profile; level = a.level; duty = a.duty; ontime = a.ontime; load = a.load } in
-    let judged : WaitJudged given =
-    wait_judged given c.requires in
-    let j = judged in record {
-      ontime_le_ontime = j.ontime;
-      leastduty_le_duty = j.duty;
+    let judged = wait_judged c.args.given c.requires in
+    record {
+      ontime_le_ontime = judged.ontime;
+      leastduty_le_duty = judged.duty;
     }
 
-pub returns-then-profile-eq-ADAPTIVE : goal.returns-then-profile-eq-ADAPTIVE
+pub returns-then-given-eq-ADAPTIVE : goal.returns-then-given-eq-ADAPTIVE
 unfolding wait_with
-returns-then-profile-eq-ADAPTIVE c = simp (c.if-profile-eq-ADAPTIVE.true, c.adaptive_wait.ensures)
+returns-then-given-eq-ADAPTIVE c = simp (c.if-given-eq-ADAPTIVE.true, c.adaptive_wait.ensures)
 
 pub harmonised_wait-requires : goal.harmonised_wait-requires
 harmonised_wait-requires c =
-    let given : WaitArguments =
-    let a = c.args in
-    record { profile = a.profile; level = a.level; duty = a.duty; ontime = a.ontime; load = a.load } in
-    let judged : WaitJudged given =
-    wait_judged given c.requires in
-    let j = judged in (j.ontime, j.load)
+    let judged = wait_judged c.args.given c.requires in
+    (judged.ontime, judged.load)
 
-pub returns-then-profile-eq-HARMONISED : goal.returns-then-profile-eq-HARMONISED
+pub returns-then-given-eq-HARMONISED : goal.returns-then-given-eq-HARMONISED
 unfolding wait_with
-returns-then-profile-eq-HARMONISED c = simp (c.if-profile-eq-HARMONISED.true, c.harmonised_wait.ensures)
+returns-then-given-eq-HARMONISED c = simp (c.if-given-eq-HARMONISED.true, c.harmonised_wait.ensures)
 
 picked : (profile one two three four five : ℕ) → 1 ≤ profile → profile ≤ 2
     → cond (eqb profile 1) one two ≡ by_profile profile one two three four five
@@ -52,13 +43,9 @@ picked profile one two three four five low high =
 pub returns : goal.returns
 unfolding wait_with
 returns c =
-    let given : WaitArguments =
-    let a = c.args in
-    record { profile = a.profile; level = a.level; duty = a.duty; ontime = a.ontime; load = a.load } in
-    let judged : WaitJudged given =
-    wait_judged given c.requires in
+    let judged = wait_judged c.args.given c.requires in
     let good = within-true _ _ _ judged.profile in
     c.pick.ensures
     ∙ simp (c.wait-first.ensures, c.constants.ensures, c.wait-second.ensures, c.constants-2.ensures)
-    (picked c.args.profile _ _ _ _ _ good.0 (omega
-    (arith, good.1, c.if-profile-eq-HARMONISED.false, c.if-profile-eq-ADAPTIVE.false)))
+    (picked c.args.given.profile _ _ _ _ _ good.0 (omega
+    (arith, good.1, c.if-given-eq-HARMONISED.false, c.if-given-eq-ADAPTIVE.false)))

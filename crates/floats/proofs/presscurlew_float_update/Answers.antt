@@ -1,35 +1,29 @@
 -- What is refused gets 14 and zeros; what isn't gets the two results of the sequence, of which the duty was held.
-use mathlib.Core.Path.{◌≡◌, sym, ◌∙◌, ap}
-use mathlib.Core.Bool.{true, false}
-use native.Mathlib.Omega.{arith}
+use Rattle.std.proofs.Common.{◌≡◌, refl, sym, ◌∙◌, ap, Bool, true, false, None, Some}
+use Rattle.std.specs.Bool.{then_some}
 use lib.Ieee.{Float, of_bits, round}
-use Rattle.floats.specs.Update.{Arguments, accepted, next_smoothed, duty_of, bad_float, float_answer, is_duty}
+use Rattle.floats.specs.Update.{float_answer, is_duty}
 use Rattle.floats.proofs.Limits.{duty_within}
 use Rattle.floats.proofs.presscurlew_float_update.Goals as goal
 
-pub returns-then-not-is_accepted : goal.returns-then-not-is_accepted
-unfolding float_answer of_bits round
-returns-then-not-is_accepted c =
-    let given : Arguments =
-    let a = c.args in
-    record { duty = a.duty; smoothed = a.smoothed; kept = a.kept; new = a.new } in
-    let refused : accepted given ≡ false = sym c.is_accepted.ensures ∙ c.if-not-is_accepted.true in
-    let answer : float_answer given ≡ bad_float = simp refused in record {
-      exact = sym answer;
-      within = record { within = λ e. absurd (omega arith) };
+given : (b : Bool) (x : Float × Float) (s d : Float) → Some (s, d) ≡ then_some b x → (b ≡ true) × (s ≡ x.0) × (d ≡ x.1)
+given true x s d e = (refl, cc, cc)
+given false x s d e = cc
+
+refused : (b : Bool) (x : Float × Float) → None ≡ then_some b x → b ≡ false
+refused true x e = cc
+refused false x e = refl
+
+pub returns-in-Some-clause-exact : goal.returns-in-Some-clause-exact
+unfolding float_answer
+returns-in-Some-clause-exact c = let g = given _ _ _ _ c.in-Some.ensures in simp (g.0, g.1, g.2)
+
+pub returns-in-Some-clause-within : goal.returns-in-Some-clause-within
+returns-in-Some-clause-within c =
+    let g = given _ _ _ _ c.in-Some.ensures in record {
+      within = λ e. ap (λ (x : Float). is_duty x) g.2 ∙ duty_within c.args.duty _;
     }
 
-pub returns : goal.returns
-unfolding float_answer
-returns c =
-    let given : Arguments =
-    let a = c.args in
-    record { duty = a.duty; smoothed = a.smoothed; kept = a.kept; new = a.new } in
-    let a = given in
-    let passed : accepted a ≡ true = sym c.is_accepted.ensures ∙ c.if-not-is_accepted.false in
-    let s : c.smooth-next.result ≡ next_smoothed a = c.smooth-next.ensures in
-    let d : c.next_duty.result ≡ duty_of a.duty c.smooth-next.result = c.next_duty.ensures in
-    let held : is_duty c.next_duty.result ≡ true = ap (λ (x : Float). is_duty x) d ∙ duty_within a.duty _ in record {
-      exact = simp (passed, d, s);
-      within = record { within = λ e. held };
-    }
+pub returns-in-None-clause-exact : goal.returns-in-None-clause-exact
+unfolding float_answer of_bits round
+returns-in-None-clause-exact c = let g = refused _ _ c.in-None.ensures in sym (simp g)

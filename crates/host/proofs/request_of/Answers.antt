@@ -1,19 +1,19 @@
 -- Each kind is the clause of its case.
-use borrow.Author.Tests.{eq-eqb, ne_eqb}
+use Rattle.std.proofs.Common.{◌≡◌, arith, ne_eqb}
 use Rattle.host.specs.Turns.{call_in}
 use Rattle.host.proofs.request_of.Goals as goal
 
-pub returns-then-kind-eq-SAMPLE : goal.returns-then-kind-eq-SAMPLE
+pub returns-in-1 : goal.returns-in-1
 unfolding call_in
-returns-then-kind-eq-SAMPLE c =
-    λ stamp. rw (eq-eqb _ _ c.if-kind-eq-SAMPLE.true)
+returns-in-1 c = λ stamp. rw c.in-1.is
 
-pub returns-then-kind-eq-OFFER : goal.returns-then-kind-eq-OFFER
+pub returns-in-2 : goal.returns-in-2
 unfolding call_in
-returns-then-kind-eq-OFFER c =
-    λ stamp. rw (ne_eqb _ _ c.if-kind-eq-SAMPLE.false, eq-eqb _ _ c.if-kind-eq-OFFER.true)
+returns-in-2 c = λ stamp. rw c.in-2.is
 
-pub returns : goal.returns
+pub returns-in_default : goal.returns-in_default
 unfolding call_in
-returns c =
-    λ stamp. rw (ne_eqb _ _ c.if-kind-eq-SAMPLE.false, ne_eqb _ _ c.if-kind-eq-OFFER.false)
+returns-in_default c =
+    let no_sample : c.args.kind ≡ 1 → ⊥ = λ e. omega arith in
+    let no_offer : c.args.kind ≡ 2 → ⊥ = λ e. omega arith in
+    λ stamp. rw (ne_eqb _ _ no_sample, ne_eqb _ _ no_offer)

@@ -1,32 +1,21 @@
-use Prim.Native.Nat.{◌+◌}
-use mathlib.Core.Path.{◌≡◌, ap}
-use lib.ListN.{take, drop}
-use native.Mathlib.Omega.{arith}
-use Rattle.ledger.specs.Layout.{added}
-use Rattle.ledger.proofs.Walk.{added_next, done}
+-- The on-times added are the library's sum of them, which fits, as it is no more than is allowed.
+use Rattle.std.proofs.Common.{ℕ, List, ◌≡◌, ◌≤◌, ◌∙◌, sym, refl, rules, arith}
+use Rattle.std.specs.List.{sum_by}
+use Rattle.std.proofs.lemmas.List.Recursion.{is_sum_by}
+use Rattle.ledger.specs.Layout.{ontime_in, added}
 use Rattle.ledger.proofs.air_of.Goals as goal
 
-pub loop-i-init : goal.loop-i-init
-loop-i-init c = (omega arith, omega arith)
+summed : (ws : List ℕ) → added ws ≡ sum_by ontime_in ws
+unfolding added
+summed ws = is_sum_by added ontime_in refl (λ w ws. refl) ws
 
-pub overflow_add-sum : goal.overflow_add-sum
-overflow_add-sum c =
-    let adds : (added (take c.args.n c.args.slots.now)
-    ≡ c.loop-i.sum + c.ontime_in-sum.result + added (drop (c.loop-i.i + 1) (take c.args.n c.args.slots.now))) =
-    let e = added_next c.args.slots.now c.args.n c.loop-i.i (omega (arith, c.requires.forty, c.requires.n_bound)) (omega arith) in
-    omega (arith, c.loop-i.invariant.1, e, c.ontime_in-sum.ensures) in
-    omega (arith, adds, c.requires.slots_bound)
-
-pub loop-i-preserved : goal.loop-i-preserved
-loop-i-preserved c =
-    let adds : (added (take c.args.n c.args.slots.now)
-    ≡ c.loop-i.sum + c.ontime_in-sum.result + added (drop (c.loop-i.i + 1) (take c.args.n c.args.slots.now))) =
-    let e = added_next c.args.slots.now c.args.n c.loop-i.i (omega (arith, c.requires.forty, c.requires.n_bound)) (omega arith) in
-    omega (arith, c.loop-i.invariant.1, e, c.ontime_in-sum.ensures) in
-    (omega arith, adds)
+pub sum-requires-clause-fits : goal.sum-requires-clause-fits
+sum-requires-clause-fits c =
+    let few : sum_by ontime_in c.args.words.now ≤ 30000 =
+    omega (arith, summed c.args.words.now, c.requires) in
+    search rules
 
 pub returns : goal.returns
-unfolding added
 returns c =
-    let e = done c.args.slots.now c.args.n c.loop-i.i (omega (arith, c.requires.forty, c.requires.n_bound)) (omega arith) in
-    omega (arith, c.loop-i.invariant.1, ap added e)
+    let all : c.sum.result ≡ sum_by ontime_in c.args.words.now = search rules in
+    all ∙ sym (summed c.args.words.now)

@@ -1,28 +1,41 @@
-use mathlib.Core.Path.{◌∙◌, sym, ap}
-use native.Mathlib.Omega.{arith}
-use Rattle.ledger.specs.Layout.{aged_in}
-use Rattle.ledger.proofs.Walk.{aged_next, done}
+-- What the search finds is the first that is young; where there is none, all have aged.
+use Rattle.std.proofs.Common.{ℕ, List, Option, None, Some, ◌≡◌, ◌∙◌, ◌-◌, ◌<◌, ◌≤◌, sym, refl, take, length, rules, arith}
+use Rattle.std.proofs.Common.{true, false}
+use Rattle.std.proofs.lemmas.List.{length-take-le}
+use Rattle.std.proofs.lemmas.List.Recursion.{is_position_or_len}
+use Rattle.std.proofs.lemmas.List.Sums.{position_or_len_is}
+use Rattle.std.specs.Option.{MatchOption, unwrap_or}
+use Rattle.std.specs.List.{AllWithin, HoldsAt}
+use Rattle.model.specs.Ledger.{young_at}
+use Rattle.ledger.specs.Layout.{age_in, aged_in}
 use Rattle.ledger.proofs.count_aged.Goals as goal
 
-pub loop-k-init : goal.loop-k-init
-loop-k-init c = (omega arith, omega arith)
+module _ (now base : ℕ) (ws : List ℕ) where
+  abbrev Young : (i : ℕ) → Type 0
+  Young i = HoldsAt (λ (w : ℕ). young_at now (base - age_in w) ≡ true) ws i
 
-pub returns-then-is_young : goal.returns-then-is_young
-returns-then-is_young c =
-    let e =
-    aged_next c.args.slots.now c.args.n c.loop-k.k (omega (arith, c.requires.forty, c.requires.n_bound)) c.args.time
-    c.args.base c.time_in-at.result c.time_in-at.ensures (omega arith) in
-    omega (arith, c.loop-k.invariant.1, e.0 (sym c.is_young.ensures ∙ c.if-is_young.true))
+  abbrev AgedBelow : (i : ℕ) → Type 0
+  AgedBelow i = AllWithin (λ (w : ℕ). young_at now (base - age_in w) ≡ false) ws 0 i
 
-pub loop-k-preserved : goal.loop-k-preserved
-loop-k-preserved c =
-    let e =
-    aged_next c.args.slots.now c.args.n c.loop-k.k (omega (arith, c.requires.forty, c.requires.n_bound)) c.args.time
-    c.args.base c.time_in-at.result c.time_in-at.ensures (omega arith) in
-    (omega arith, omega (arith, c.loop-k.invariant.1, e.1 (sym c.is_young.ensures ∙ c.if-is_young.false)))
+  -- what the search gives
+  abbrev Found : Option ℕ → Type 0
+  Found r = MatchOption r (AgedBelow (length ws)) (λ (i : ℕ). (i < length ws) × Young i × AgedBelow i)
+
+  first_young : (i : ℕ) → i ≤ length ws → AgedBelow i → (i < length ws → Young i) → aged_in now base ws ≡ i
+  unfolding aged_in
+  first_young i b aged young =
+      is_position_or_len (aged_in now base) (λ (w : ℕ). young_at now (base - age_in w)) refl (λ w l. refl) ws
+      ∙ position_or_len_is (λ (w : ℕ). young_at now (base - age_in w)) ws i 0 b (λ k h. aged k 0 (omega arith) h)
+      (λ h. young h 0)
+
+  counted : (r : Option ℕ) → Found r → unwrap_or r (length ws) ≡ aged_in now base ws
+  counted None h = sym (first_young (length ws) (omega arith) h (λ l. absurd (omega arith)))
+  counted (Some i) h = sym (first_young i (omega (arith, h.0)) h.2 (λ l. h.1))
 
 pub returns : goal.returns
-unfolding aged_in
 returns c =
-    let e = done c.args.slots.now c.args.n c.loop-k.k (omega (arith, c.requires.forty, c.requires.n_bound)) (omega arith) in
-    omega (arith, c.loop-k.invariant.1, ap (aged_in c.args.time c.args.base) e)
+    let found : Found c.args.time c.args.base (take c.args.n c.args.slots.now) c.position-young.result = search rules in
+    let long : length (take c.args.n c.args.slots.now) ≡ c.args.n =
+    length-take-le c.args.n c.args.slots.now (omega arith) in
+    c.unwrap_or.ensures
+    ∙ rw long at (counted c.args.time c.args.base (take c.args.n c.args.slots.now) c.position-young.result found)

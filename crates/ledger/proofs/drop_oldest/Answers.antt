@@ -1,96 +1,43 @@
-use Prim.Native.Nat.{◌-◌, ◌≤◌}
-use mathlib.Core.Path.{◌≡◌, ◌∙◌, refl, ap}
-use lib.ListN.{length, take, drop, length-set}
-use borrow.Author.Tests.{eq-eqb, ne_eqb}
-use native.Mathlib.Omega.{arith}
-use Rattle.packing.proofs.Stores.{shift_next, shifted}
-use Rattle.model.specs.Ledger.{places}
-use Rattle.ledger.specs.Layout.{in_places, without_oldest}
+-- What is copied to the front is the words without the oldest, and as many zeros follow as there are places left.
+use Rattle.std.proofs.Common.{ℕ, List, [], ◌≡◌, ◌∙◌, ◌≤◌, ◌+◌, ◌-◌, ◌++◌, length, take, drop, ap, refl, arith, eq-eqb, append-nil}
+use Rattle.std.proofs.Math.ListN.{replicate}
+use borrow.Author.Tests.{ne_eqb}
+use Rattle.std.specs.List.{copy_within}
+use Rattle.std.proofs.lemmas.List.Edits.{take-paste}
+use Rattle.std.proofs.lemmas.List.{length-take, length-drop, drop_all}
+use Rattle.std.proofs.lemmas.Slice.{between_is}
+use Rattle.packing.specs.Packing.{filled}
+use Rattle.ledger.specs.Layout.{without_oldest, in_places}
 use Rattle.ledger.proofs.drop_oldest.Goals as goal
 
 pub returns-then-k-eq0 : goal.returns-then-k-eq0
 unfolding without_oldest
 returns-then-k-eq0 c = rw (eq-eqb _ _ c.if-k-eq0.true)
 
-pub overflow_sub-rest : goal.overflow_sub-rest
-overflow_sub-rest c =
-    let bounds : (let a = c.args in (a.n ≤ places) × (a.k ≤ a.n)) =
-    c.requires.n_bound (omega (arith, c.if-k-eq0.false)) in
-    bounds.1
+copied : (n k : ℕ) (s : List ℕ) → n ≤ length s → take (n - k) (copy_within s k n 0) ≡ drop k (take n s)
+copied n k s h =
+    let front : n - k ≡ 0 + (n - k) = omega arith in
+    ap (λ (m : ℕ). take m (copy_within s k n 0)) front
+    ∙ take-paste s 0 (drop k s) (n - k) (omega arith) (omega (arith, length-drop k s)) ∙ between_is s k n
 
-pub loop-i-init : goal.loop-i-init
-loop-i-init c = (omega arith, refl, c.requires.forty)
-
-pub overflow_add-slots : goal.overflow_add-slots
-overflow_add-slots c =
-    let bounds : (let a = c.args in (a.n ≤ places) × (a.k ≤ a.n)) =
-    c.requires.n_bound (omega (arith, c.if-k-eq0.false)) in
-    omega (arith, bounds)
-
-pub offset_bounds-slots-i : goal.offset_bounds-slots-i
-offset_bounds-slots-i c =
-    let bounds : (let a = c.args in (a.n ≤ places) × (a.k ≤ a.n)) =
-    c.requires.n_bound (omega (arith, c.if-k-eq0.false)) in
-    omega (arith, bounds)
-
-pub bounds-slots-i : goal.bounds-slots-i
-bounds-slots-i c =
-    let bounds : (let a = c.args in (a.n ≤ places) × (a.k ≤ a.n)) =
-    c.requires.n_bound (omega (arith, c.if-k-eq0.false)) in
-    omega (arith, bounds, c.loop-i.invariant.2)
-
-pub offset_bounds-slots-i-in-loop-i : goal.offset_bounds-slots-i-in-loop-i
-offset_bounds-slots-i-in-loop-i c =
-    let bounds : (let a = c.args in (a.n ≤ places) × (a.k ≤ a.n)) =
-    c.requires.n_bound (omega (arith, c.if-k-eq0.false)) in
-    omega (arith, bounds)
-
-pub bounds-slots-i-in-loop-i : goal.bounds-slots-i-in-loop-i
-bounds-slots-i-in-loop-i c =
-    let bounds : (let a = c.args in (a.n ≤ places) × (a.k ≤ a.n)) =
-    c.requires.n_bound (omega (arith, c.if-k-eq0.false)) in
-    omega (arith, bounds, c.loop-i.invariant.2)
-
-pub overflow_add-i : goal.overflow_add-i
-overflow_add-i c =
-    let bounds : (let a = c.args in (a.n ≤ places) × (a.k ≤ a.n)) =
-    c.requires.n_bound (omega (arith, c.if-k-eq0.false)) in
-    omega (arith, bounds)
-
-pub loop-i-preserved : goal.loop-i-preserved
-loop-i-preserved c =
-    let bounds : (let a = c.args in (a.n ≤ places) × (a.k ≤ a.n)) =
-    c.requires.n_bound (omega (arith, c.if-k-eq0.false)) in (
-      omega arith,
-      shift_next places 0 c.args.slots.now c.args.n c.args.k c.requires.forty bounds.0 c.loop-i.slots
-          c.loop-i.i (omega arith) c.loop-i.invariant.1,
-      simp length-set c.loop-i.invariant.2,
-    )
-
-pub clear-requires : goal.clear-requires
-clear-requires c =
-    let bounds : (let a = c.args in (a.n ≤ places) × (a.k ≤ a.n)) =
-    c.requires.n_bound (omega (arith, c.if-k-eq0.false)) in
-    let passed : ((take (c.args.n - c.args.k) c.loop-i.slots
-    ≡ drop c.args.k (take c.args.n c.args.slots.now))
-    × (length c.loop-i.slots ≡ places)) =
-    let i : c.loop-i.i ≡ c.args.n - c.args.k = omega (arith, c.loop-i.invariant.0) in
-    shifted places 0 c.args.slots.now c.args.n c.args.k c.requires.forty bounds.0 c.loop-i.slots
-    (rw i at c.loop-i.invariant.1) in
-    record {
-      forty = passed.1;
-      n_bound = omega (arith, bounds.0);
-    }
+-- m places past the first n of s
+zeroed : (n m : ℕ) (s zeros : List ℕ) → n ≤ 40 → length s ≡ 40 → m ≡ 40 - n
+    → zeros ≡ replicate (length (take m (drop n s))) 0
+    → take n s ++ (zeros ++ drop m (drop n s)) ≡ in_places (take n s)
+unfolding filled
+zeroed n m s zeros b l d e =
+    let none : drop m (drop n s) ≡ [] = drop_all m (drop n s) (omega (arith, length-drop n s)) in
+    let same : length (take m (drop n s)) ≡ 40 - length (take n s) =
+    omega (arith, length-take m (drop n s), length-drop n s, length-take n s) in
+    rw (none, e, same, append-nil)
 
 pub returns : goal.returns
 unfolding without_oldest
 returns c =
-    let bounds : (let a = c.args in (a.n ≤ places) × (a.k ≤ a.n)) =
-    c.requires.n_bound (omega (arith, c.if-k-eq0.false)) in
-    let passed : ((take (c.args.n - c.args.k) c.loop-i.slots
-    ≡ drop c.args.k (take c.args.n c.args.slots.now))
-    × (length c.loop-i.slots ≡ places)) =
-    let i : c.loop-i.i ≡ c.args.n - c.args.k = omega (arith, c.loop-i.invariant.0) in
-    shifted places 0 c.args.slots.now c.args.n c.args.k c.requires.forty bounds.0 c.loop-i.slots
-    (rw i at c.loop-i.invariant.1) in
-    rw (ne_eqb _ _ c.if-k-eq0.false) (c.clear.ensures ∙ ap in_places passed.0)
+    let bounds : (c.args.n ≤ 40) × (c.args.k ≤ c.args.n) = c.requires.n_bound (omega (arith, c.if-k-eq0.false)) in
+    let kept : take (c.args.n - c.args.k) c.copy_within.new.self ≡ drop c.args.k (take c.args.n c.args.slots.now) =
+    rw c.copy_within.ensures.after (copied c.args.n c.args.k c.args.slots.now (omega arith)) in
+    rw (ne_eqb _ _ c.if-k-eq0.false)
+    (zeroed (c.args.n - c.args.k) (40 - (c.args.n - c.args.k)) c.copy_within.new.self c.fill.new.self (omega arith)
+    (omega (arith, c.copy_within.ensures.len)) refl (c.fill.ensures.after (λ y e. e))
+    ∙ ap in_places kept)

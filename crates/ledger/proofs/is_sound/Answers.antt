@@ -1,9 +1,10 @@
 -- Each test that fails is a return of no, since a sound ledger passes it; a ledger that passes those of its newest goes by its
 -- words and its unused places, which are the callees'.
-use mathlib.Core.Path.{◌≡◌, sym, ◌∙◌}
-use mathlib.Core.Bool.{false, ◌&&◌}
+use mathlib.Core.Path.{◌≡◌, ap, sym, ◌∙◌}
+use mathlib.Core.Bool.{◌&&◌}
 use native.Mathlib.Omega.{arith}
 use lib.ListN.{drop}
+use Rattle.std.proofs.lemmas.Slice.{between_to_end}
 use Rattle.rules.proofs.Cases.{clash}
 use Rattle.packing.specs.Packing.{all_are, is_unused}
 use Rattle.ledger.specs.Layout.{ledger_of, sound_ledger}
@@ -18,7 +19,7 @@ returns-then-is_recent c =
 
 pub returns-then-n-eq0 : goal.returns-then-n-eq0
 returns-then-n-eq0 c =
-    c.is_rest_zero.ensures
+    c.are_zero.ensures
     ∙ sym (rw c.if-n-eq0.true
     (none-held c.args.profile c.args.time c.args.last c.args.slots.now
     (sym c.is_recent.ensures ∙ c.if-is_recent.false)))
@@ -29,37 +30,23 @@ returns-then-n-gt40 c =
 
 pub returns-then-not-is_recent : goal.returns-then-not-is_recent
 returns-then-not-is_recent c =
-    let unsound : ((Newest c.args.time c.args.last c.args.n c.args.slots.now → ⊥)
-    → false ≡ sound_ledger c.args.profile c.args.time c.args.last (ledger_of c.args.n c.args.slots.now)) =
-    λ f. sym (not_newest c.args.profile c.args.time c.args.last c.args.slots.now c.args.n
-    (omega (arith, c.if-n-eq0.false)) (omega (arith, c.requires.forty, c.if-n-gt40.false)) f) in
-    unsound
-    (λ h. let e = sym h.recent ∙ sym c.is_recent-2.ensures ∙ c.if-not-is_recent.true in clash (cc))
+    sym (not_newest c.args.profile c.args.time c.args.last c.args.slots.now c.args.n (omega arith) (omega arith)
+    (λ h. let e = sym h.recent ∙ sym c.is_recent-2.ensures ∙ c.if-not-is_recent.true in clash (cc)))
 
 pub returns-then-time-last : goal.returns-then-time-last
 returns-then-time-last c =
-    let unsound : ((Newest c.args.time c.args.last c.args.n c.args.slots.now → ⊥)
-    → false ≡ sound_ledger c.args.profile c.args.time c.args.last (ledger_of c.args.n c.args.slots.now)) =
-    λ f. sym (not_newest c.args.profile c.args.time c.args.last c.args.slots.now c.args.n
-    (omega (arith, c.if-n-eq0.false)) (omega (arith, c.requires.forty, c.if-n-gt40.false)) f) in
-    unsound (λ h. omega (arith, h.past, c.if-time-last.true))
+    sym (not_newest c.args.profile c.args.time c.args.last c.args.slots.now c.args.n (omega arith) (omega arith)
+    (λ h. omega (arith, h.past, c.if-time-last.true)))
 
 pub returns-then-newest-last : goal.returns-then-newest-last
 returns-then-newest-last c =
-    let unsound : ((Newest c.args.time c.args.last c.args.n c.args.slots.now → ⊥)
-    → false ≡ sound_ledger c.args.profile c.args.time c.args.last (ledger_of c.args.n c.args.slots.now)) =
-    λ f. sym (not_newest c.args.profile c.args.time c.args.last c.args.slots.now c.args.n
-    (omega (arith, c.if-n-eq0.false)) (omega (arith, c.requires.forty, c.if-n-gt40.false)) f) in
-    unsound (λ h. c.if-newest-last.true h.word)
+    sym (not_newest c.args.profile c.args.time c.args.last c.args.slots.now c.args.n (omega arith) (omega arith)
+    (λ h. c.if-newest-last.true h.word))
 
 pub returns-then-newest-ge-UNIT : goal.returns-then-newest-ge-UNIT
 returns-then-newest-ge-UNIT c =
-    let unsound : ((Newest c.args.time c.args.last c.args.n c.args.slots.now → ⊥)
-    → false ≡ sound_ledger c.args.profile c.args.time c.args.last (ledger_of c.args.n c.args.slots.now)) =
-    λ f. sym (not_newest c.args.profile c.args.time c.args.last c.args.slots.now c.args.n
-    (omega (arith, c.if-n-eq0.false)) (omega (arith, c.requires.forty, c.if-n-gt40.false)) f) in
-    unsound
-    (λ h. omega (arith, h.short, c.if-newest-last.false, c.if-newest-ge-UNIT.true))
+    sym (not_newest c.args.profile c.args.time c.args.last c.args.slots.now c.args.n (omega arith) (omega arith)
+    (λ h. omega (arith, h.short, c.if-newest-last.false, c.if-newest-ge-UNIT.true)))
 
 pub overflow_sub-first : goal.overflow_sub-first
 overflow_sub-first c =
@@ -85,7 +72,7 @@ returns-then-not-is_well_kept c =
     ≡ (c.is_well_kept.result && all_are is_unused (drop c.args.n c.args.slots.now))) =
     rw (c.is_well_kept.ensures, c.most_ontime-most.ensures, c.young_from.ensures)
     (by_steps c.args.profile c.args.time c.args.last c.args.slots.now c.args.n
-    (omega (arith, c.if-n-eq0.false)) (omega (arith, c.requires.forty, c.if-n-gt40.false)) c.if-n-gt40.false newest) in
+    (omega arith) (omega arith) c.if-n-gt40.false newest) in
     sym (by_both ∙ rw (c.if-not-is_well_kept.true))
 
 pub returns : goal.returns
@@ -101,5 +88,7 @@ returns c =
     ≡ (c.is_well_kept.result && all_are is_unused (drop c.args.n c.args.slots.now))) =
     rw (c.is_well_kept.ensures, c.most_ontime-most.ensures, c.young_from.ensures)
     (by_steps c.args.profile c.args.time c.args.last c.args.slots.now c.args.n
-    (omega (arith, c.if-n-eq0.false)) (omega (arith, c.requires.forty, c.if-n-gt40.false)) c.if-n-gt40.false newest) in
-    c.is_rest_zero-2.ensures ∙ sym (by_both ∙ rw (c.if-not-is_well_kept.false))
+    (omega arith) (omega arith) c.if-n-gt40.false newest) in
+    c.are_zero-2.ensures
+    ∙ ap (all_are is_unused) (between_to_end c.args.slots.now c.args.n 40 (omega arith))
+    ∙ sym (by_both ∙ rw (c.if-not-is_well_kept.false))

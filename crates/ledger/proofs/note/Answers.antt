@@ -9,7 +9,6 @@ put_newest-requires c =
     let given : Ledger =
     ledger_of c.args.n c.args.slots.now in
     let h = c.requires in record {
-      forty = h.forty;
       n_bound = λ z. (h.n_lt_places, moves c.args.base c.args.at given h.base_le_at h.packed h.slots_value);
     }
 

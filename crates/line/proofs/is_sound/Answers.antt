@@ -1,62 +1,33 @@
--- One test after the other; the first that fails makes the line unsound.
-use Prim.Native.Nat.{ℕ}
-use mathlib.Core.Path.{◌≡◌, ◌∙◌, sym, ap}
-use mathlib.Core.Bool.{Bool, true, false, false≢true}
-use lib.Dec.{leb}
-use native.Mathlib.Omega.{arith}
-use Rattle.line.proofs.Packing.{tidies, tidy-Packed}
-use Rattle.line.proofs.Judged.{too_long, not-zero, not_in_line, too_many, else_sound}
+-- The first test that fails makes the line unsound; else the last says.
+use Rattle.std.proofs.Common.{refl, sym, ◌∙◌, arith}
+use Rattle.line.proofs.Packing.{tidy-Packed}
+use Rattle.line.proofs.Judged.{by_parts}
 use Rattle.line.proofs.is_sound.Goals as goal
+use Rattle.line.proofs.is_sound.Goals.{then-is_tidy, else-is_tidy}
 
--- an answer of no says nothing more
-no : (u : Bool) (P : Type 0) → u ≡ false → (false ≡ u) × (false ≡ true → P)
-no u P e = (sym e, λ z. absurd (false≢true z))
+pub returns-then-are_packets_sound-clause-exact : goal.returns-then-are_packets_sound-clause-exact
+returns-then-are_packets_sound-clause-exact c =
+    elim c.if-is_tidy.branch [
+      | then-is_tidy w ↦
+          sym (by_parts _ _ c.args.l c.is_tidy.ensures w.are_packets_sound.ensures c.are_counts_sound.ensures
+          ∙ rw (w.if-is_tidy.true, sym w.value-is ∙ c.if-are_packets_sound.true) refl)
+      | else-is_tidy w ↦ cc
+    ]
 
-pub returns-then-l-gt-PLACES : goal.returns-then-l-gt-PLACES
-returns-then-l-gt-PLACES c =
-    let all = no _ _ (too_long _ _ c.args.l c.if-l-gt-PLACES.true) in
-    record { exact = all.0; tight = all.1 }
+pub returns-then-are_packets_sound-clause-tight : goal.returns-then-are_packets_sound-clause-tight
+returns-then-are_packets_sound-clause-tight c =
+    elim c.if-is_tidy.branch [
+      | then-is_tidy w ↦ λ z. tidy-Packed c.args.l (omega arith) (sym c.is_tidy.ensures ∙ w.if-is_tidy.true)
+      | else-is_tidy w ↦ cc
+    ]
 
-pub returns-then-not-is_rest_zero : goal.returns-then-not-is_rest_zero
-returns-then-not-is_rest_zero c =
-    let all = no _ _ (not-zero _ _ c.args.l
-    (sym c.is_rest_zero.ensures ∙ c.if-not-is_rest_zero.true)) in
-    record { exact = all.0; tight = all.1 }
-
-pub returns-then-not-are_packets_sound : goal.returns-then-not-are_packets_sound
-returns-then-not-are_packets_sound c =
-    let all = no _ _ (not_in_line _ _ c.args.l
-    (sym c.are_packets_sound.ensures ∙ c.if-not-are_packets_sound.true)) in
-    record { exact = all.0; tight = all.1 }
-
-pub returns-then-count_of-gt-MOST_OF_A_PRIORITY : goal.returns-then-count_of-gt-MOST_OF_A_PRIORITY
-returns-then-count_of-gt-MOST_OF_A_PRIORITY c =
-    let all = no _ _ (too_many _ _ c.args.l 0 (omega arith)
-    (omega (arith, c.count_of.ensures, c.if-count_of-gt-MOST_OF_A_PRIORITY.true))) in
-    record { exact = all.0; tight = all.1 }
-
-pub returns-then-count_of-gt-MOST_OF_A_PRIORITY-2 : goal.returns-then-count_of-gt-MOST_OF_A_PRIORITY-2
-returns-then-count_of-gt-MOST_OF_A_PRIORITY-2 c =
-    let all = no _ _ (too_many _ _ c.args.l 1
-    (omega arith) (omega (arith, c.count_of-2.ensures, c.if-count_of-gt-MOST_OF_A_PRIORITY-2.true))) in
-    record { exact = all.0; tight = all.1 }
-
-pub returns-then-count_of-gt-MOST_OF_A_PRIORITY-3 : goal.returns-then-count_of-gt-MOST_OF_A_PRIORITY-3
-returns-then-count_of-gt-MOST_OF_A_PRIORITY-3 c =
-    let all = no _ _ (too_many _ _
-    c.args.l 2
-    (omega arith) (omega (arith, c.count_of-3.ensures, c.if-count_of-gt-MOST_OF_A_PRIORITY-3.true))) in
-    record { exact = all.0; tight = all.1 }
-
-pub returns : goal.returns
-returns c =
-    let l = c.args.l in
-    let t = tidies l c.if-l-gt-PLACES.false (sym c.is_rest_zero.ensures ∙ c.if-not-is_rest_zero.false) in record {
-      exact = ap (λ (n : ℕ). leb n 5) c.count_of-4.ensures
-          ∙ sym (else_sound c.args.profile c.args.now l t
-          (sym c.are_packets_sound.ensures ∙ c.if-not-are_packets_sound.false)
-          (omega (arith, c.count_of.ensures, c.if-count_of-gt-MOST_OF_A_PRIORITY.false))
-          (omega (arith, c.count_of-2.ensures, c.if-count_of-gt-MOST_OF_A_PRIORITY-2.false))
-          (omega (arith, c.count_of-3.ensures, c.if-count_of-gt-MOST_OF_A_PRIORITY-3.false)));
-      tight = λ z. tidy-Packed l (omega arith) t;
-    }
+pub returns-else-are_packets_sound-clause-exact : goal.returns-else-are_packets_sound-clause-exact
+returns-else-are_packets_sound-clause-exact c =
+    elim c.if-is_tidy.branch [
+      | then-is_tidy w ↦
+          w.value-is
+          ∙ sym (by_parts _ _ c.args.l c.is_tidy.ensures w.are_packets_sound.ensures refl
+          ∙ rw (w.if-is_tidy.true, sym w.value-is ∙ c.if-are_packets_sound.false) refl)
+      | else-is_tidy w ↦
+          w.value-is ∙ sym (by_parts _ _ c.args.l c.is_tidy.ensures refl refl ∙ rw w.if-is_tidy.false refl)
+    ]

@@ -1,17 +1,13 @@
-use mathlib.Core.Path.{sym, refl}
-use native.Mathlib.Omega.{arith}
+use Rattle.std.proofs.Common.{sym, arith}
 use Rattle.packing.proofs.Zeros.{zeros_next, zeros_done}
 use Rattle.machine.proofs.bits_of.Goals as goal
 
-pub loop-i-init : goal.loop-i-init
-loop-i-init c = (omega arith, refl)
-
-pub loop-i-preserved : goal.loop-i-preserved
-loop-i-preserved c =
-    let xs = c.args.xs.now in
-    (omega arith, zeros_next 0 xs c.loop-i.bits c.loop-i.i c.loop-i.invariant.1 (omega arith))
+pub loop-x-preserved : goal.loop-x-preserved
+loop-x-preserved c =
+    let l = c.loop-x in
+    zeros_next 0 c.args.xs.now l.bits l.x-index l.invariant (omega arith)
 
 pub returns : goal.returns
 returns c =
-    let xs = c.args.xs.now in
-    sym (zeros_done 0 xs c.loop-i.bits c.loop-i.i c.loop-i.invariant.1 (omega arith))
+    let l = c.loop-x in
+    sym (zeros_done 0 c.args.xs.now l.bits l.x-index l.invariant (omega arith))

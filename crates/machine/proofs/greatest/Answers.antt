@@ -1,20 +1,16 @@
-use mathlib.Core.Path.{◌∙◌, sym, refl}
-use native.Mathlib.Omega.{arith}
-use Rattle.packing.proofs.Walk.{next, done}
-use Rattle.machine.specs.Moves.{greatest_from}
+-- The library's `max`, and 0 of none.
+use Rattle.std.proofs.Common.{◌≡◌, ◌∙◌, sym, max}
+use Rattle.std.specs.List.{reduce}
+use Rattle.std.proofs.lemmas.Iterator.{YieldsList-from_slice}
+use Rattle.std.proofs.lemmas.Iterator.Adapters.{option_map_id}
+use Rattle.std.proofs.lemmas.Iterator.Consumers.{YieldsList-from_copied, max_from_yields_List}
+use Rattle.machine.proofs.Parts.{greatest-reduced}
 use Rattle.machine.proofs.greatest.Goals as goal
 
-pub loop-i-init : goal.loop-i-init
-loop-i-init c = (omega arith, refl)
-
-pub loop-i-preserved : goal.loop-i-preserved
-unfolding greatest_from
-loop-i-preserved c =
-    let xs = c.args.xs.now in
-    (omega arith, c.loop-i.invariant.1 ∙ rw (next 0 xs c.loop-i.i (omega arith), c.greater-m.ensures))
-
 pub returns : goal.returns
-unfolding greatest_from
 returns c =
     let xs = c.args.xs.now in
-    sym (c.loop-i.invariant.1 ∙ rw (done 0 xs c.loop-i.i (omega arith)))
+    let e : c.max.result ≡ reduce max xs =
+    sym (option_map_id c.max.result)
+    ∙ max_from_yields_List _ _ c.max.ensures.ran (YieldsList-from_copied (YieldsList-from_slice xs (cc))) in
+    c.unwrap_or.ensures ∙ rw e (greatest-reduced xs)

@@ -8,4 +8,4 @@ pub returns : goal.returns
 unfolding high_of
 returns c =
     c.greatest.ensures
-    ∙ ap greatest_of (rw (c.before_last-from.ensures, c.fewer-m.ensures) (last_part 50 c.args.n c.args.slots.now))
+    ∙ ap greatest_of (rw (c.saturating_sub.ensures, c.min-m.ensures) (last_part 50 c.args.n c.args.slots.now))

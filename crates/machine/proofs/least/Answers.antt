@@ -1,26 +1,16 @@
-use mathlib.Core.Path.{◌∙◌, sym}
-use native.Mathlib.Omega.{arith}
-use Rattle.packing.proofs.Walk.{next, done}
-use Rattle.machine.specs.Moves.{least_from}
-use Rattle.machine.proofs.Parts.{least_none, least_begun}
+-- The library's `min`, and 0 of none.
+use Rattle.std.proofs.Common.{◌≡◌, ◌∙◌, sym, min}
+use Rattle.std.specs.List.{reduce}
+use Rattle.std.proofs.lemmas.Iterator.{YieldsList-from_slice}
+use Rattle.std.proofs.lemmas.Iterator.Adapters.{option_map_id}
+use Rattle.std.proofs.lemmas.Iterator.Consumers.{YieldsList-from_copied, min_from_yields_List}
+use Rattle.machine.proofs.Parts.{least-reduced}
 use Rattle.machine.proofs.least.Goals as goal
 
-pub returns-then-xs-eq0 : goal.returns-then-xs-eq0
-returns-then-xs-eq0 c = sym (least_none c.args.xs.now c.if-xs-eq0.true)
-
-pub loop-i-init : goal.loop-i-init
-loop-i-init c =
-    let xs = c.args.xs.now in
-    (omega arith, least_begun xs (omega arith))
-
-pub loop-i-preserved : goal.loop-i-preserved
-unfolding least_from
-loop-i-preserved c =
-    let xs = c.args.xs.now in
-    (omega arith, c.loop-i.invariant.1 ∙ rw (next 0 xs c.loop-i.i (omega arith), c.lesser-m.ensures))
-
 pub returns : goal.returns
-unfolding least_from
 returns c =
     let xs = c.args.xs.now in
-    sym (c.loop-i.invariant.1 ∙ rw (done 0 xs c.loop-i.i (omega arith)))
+    let e : c.min.result ≡ reduce min xs =
+    sym (option_map_id c.min.result)
+    ∙ min_from_yields_List _ _ c.min.ensures.ran (YieldsList-from_copied (YieldsList-from_slice xs (cc))) in
+    c.unwrap_or.ensures ∙ rw e (least-reduced xs)

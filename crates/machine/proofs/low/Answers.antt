@@ -14,7 +14,7 @@ unfolding low_of
 returns-then-m-lt-LOW_OVER c =
     let xs = c.args.slots.now in
     rw (lt-ltb (length (take c.args.n xs)) low_over
-    (omega (arith, length-take c.args.n xs, c.fewer-m.ensures, c.if-m-lt-LOW_OVER.true)))
+    (omega (arith, length-take c.args.n xs, c.min-m.ensures, c.if-m-lt-LOW_OVER.true)))
 
 pub returns : goal.returns
 unfolding low_of
@@ -22,6 +22,6 @@ returns c =
     let n = c.args.n in
     let xs = c.args.slots.now in
     let ten : ltb (length (take n xs)) low_over ≡ false =
-    le-ltb (length (take n xs)) low_over (omega (arith, length-take n xs, c.fewer-m.ensures, c.if-m-lt-LOW_OVER.false)) in
+    le-ltb (length (take n xs)) low_over (omega (arith, length-take n xs, c.min-m.ensures, c.if-m-lt-LOW_OVER.false)) in
     rw ten
-    (c.least.ensures ∙ ap least_of (rw (c.before_last-from.ensures, c.fewer-m.ensures) (last_part low_over n xs)))
+    (c.least.ensures ∙ ap least_of (rw c.min-m.ensures (last_part low_over n xs)))

@@ -6,8 +6,8 @@ pub returns : goal.returns
 unfolding record_at
 returns c =
     rw (
-      c.wide-kind.ensures.0,
-      c.wide-priority.ensures.0,
+      c.from-kind.ensures,
+      c.from-priority.ensures,
       c.two_bytes-ontime.ensures,
       c.four_bytes-lifetime.ensures,
       c.four_bytes-id.ensures,

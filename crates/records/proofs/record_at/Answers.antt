@@ -1,17 +1,22 @@
 -- A whole record stands at a place from which 16 bytes lie in the log; elsewhere all is zero.
-use mathlib.Core.Path.{sym, ◌∙◌}
-use native.Mathlib.Omega.{arith}
-use Rattle.records.specs.Records.{two_at, four_at, record_at}
-use Rattle.records.proofs.Asking.{whole_record, no_record}
+use Rattle.std.proofs.Common.{sym, ◌∙◌}
+use Rattle.records.specs.Records.{two_at, four_at, record_at, whole_record_at}
 use Rattle.records.proofs.record_at.Goals as goal
 
-pub returns-then-log-lt-RECORD_BYTES : goal.returns-then-log-lt-RECORD_BYTES
-unfolding record_at two_at four_at
-returns-then-log-lt-RECORD_BYTES c = sym (no_record _ _ (omega arith))
-
-pub returns-then-log-at : goal.returns-then-log-at
-unfolding record_at two_at four_at
-returns-then-log-at c = sym (no_record _ _ (omega arith))
+pub returns-then-not-has_record : goal.returns-then-not-has_record
+unfolding whole_record_at record_at two_at four_at
+returns-then-not-has_record c =
+    let zero = c.default.ensures in
+    rw (sym c.has_record.ensures ∙ c.if-not-has_record.true)
+    (λ i. record {
+      kind = zero.0 i;
+      priority = zero.1.0 i;
+      ontime = zero.1.1.0 i;
+      lifetime = zero.1.1.1.0 i;
+      id = zero.1.1.1.1.0 i;
+      stamp = zero.1.1.1.1.1 i;
+    })
 
 pub returns : goal.returns
-returns c = c.read_record.ensures ∙ sym (whole_record _ _ (omega arith))
+unfolding whole_record_at
+returns c = rw (sym c.has_record.ensures ∙ c.if-not-has_record.false) c.read_record.ensures

@@ -1,19 +1,19 @@
 -- Before the first turn the log is empty; a turn makes it longer.
-use Rattle.std.proofs.Common.{[]}
-use native.Mathlib.Omega.{arith}
+use Rattle.std.proofs.Common.{[], arith}
+use borrow.Author.Tests.{not-false}
 use Rattle.calllog.specs.Text.{reached_from}
 use Rattle.replay.proofs.Program.{reached_on}
 use Rattle.replay.proofs.replay.Goals as goal
 
-pub loop-turns-init : goal.loop-turns-init
+pub loop-init : goal.loop-init
 unfolding reached_from
-loop-turns-init c = (
-  omega arith,
-  record { log = []; state = c.start.ensures; cut = λ e. omega arith },
-)
+loop-init c = record { log = []; state = c.start-state.ensures; cut = λ e. omega arith }
 
-pub loop-turns-preserved : goal.loop-turns-preserved
-loop-turns-preserved c = (
-  omega (arith, c.loop-turns.invariant.0, c.fill-filled.auto.input),
-  reached_on c.loop-turns.invariant.1 c.if-at.true c.step-at.ensures,
-)
+pub loop-preserved : goal.loop-preserved
+loop-preserved c = reached_on c.loop.invariant (not-false c.loop.at.more c.if-not-at.false) c.step-at.ensures
+
+pub returns-then-not-at : goal.returns-then-not-at
+returns-then-not-at c = c.loop.invariant
+
+pub returns-after-loop : goal.returns-after-loop
+returns-after-loop c = c.loop.invariant

@@ -1,5 +1,5 @@
 -- On-time over duty is at or below the least wait, at or above the longest, or strictly between: the laws of held quotients,
--- one each.
+-- one each. What the division requires is written out so that a boundary that is off fails by a number.
 use Rattle.std.proofs.Common.{◌*◌, sym, ◌∙◌, arith}
 use Rattle.rules.specs.Wait.{adaptive_wait}
 use Rattle.rules.proofs.Ceiling.{held_low, held_between, held_high}

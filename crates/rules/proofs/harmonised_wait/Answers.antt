@@ -8,9 +8,6 @@ use Rattle.rules.proofs.Factors.{waits_calm}
 use Rattle.rules.proofs.Tabled.{entry_le, place, waits_alike}
 use Rattle.rules.proofs.harmonised_wait.Goals as goal
 
-pub per_mille-c-requires : goal.per_mille-c-requires
-per_mille-c-requires c = c.requires.1
-
 pub returns-then-c-le-CALM : goal.returns-then-c-le-CALM
 returns-then-c-le-CALM c =
     let a = c.args in

@@ -1,13 +1,9 @@
--- Below the lower limit it is false; else it is the comparison with the upper one.
-use Rattle.std.proofs.Common.{le-leb}
-use borrow.Author.Tests.{lt-leb}
+-- The range's test is the definition's two comparisons.
+use Rattle.std.proofs.Common.{arith}
+use Rattle.std.proofs.lemmas.Grind.{common_steps}
 use Rattle.rules.specs.Profiles.{within}
 use Rattle.rules.proofs.lies_within.Goals as goal
 
-pub returns-then-low-x : goal.returns-then-low-x
-unfolding within
-returns-then-low-x c = simp (le-leb _ _ c.if-low-x.true)
-
 pub returns : goal.returns
 unfolding within
-returns c = simp (lt-leb _ _ c.if-low-x.false)
+returns c = grind (arith, common_steps)

@@ -1,7 +1,7 @@
 -- Nothing was found before queue k, and in it before place i.
-use Prim.Native.Nat.{◌≤◌, ◌<◌, ◌-◌}
+use Prim.Native.Nat.{◌<◌}
 use mathlib.Core.Path.{◌≡◌}
-use Rattle.waiting.specs.declared.Found.TheVariants.{Nothing}
+use Rattle.std.proofs.Common.{None}
 use Rattle.waiting.specs.Layout.{rows, len_in}
 use Rattle.waiting.proofs.Wholes.{lent_rows}
 use Rattle.waiting.proofs.Searching.{Sought, SoughtIn}
@@ -9,14 +9,8 @@ use Rattle.waiting.proofs.choose.Given as goal
 
 abbrev pub invariant-loop-i : goal.invariant-loop-i
 invariant-loop-i l =
-    (l.i ≤ l.n) × (l.found ≡ Nothing) × (l.k < 4) × (l.n ≡ len_in (lent_rows l.k (rows l.words l.came)))
+    (l.found ≡ None) × (l.k < 4) × (l.n ≡ len_in (lent_rows l.k (rows l.words l.came)))
     × SoughtIn l.time (rows l.words l.came) l.k l.i
 
-abbrev pub decreases-loop-i : goal.decreases-loop-i
-decreases-loop-i l = l.n - l.i
-
 abbrev pub invariant-search : goal.invariant-search
-invariant-search l = (l.k ≤ 4) × (l.found ≡ Nothing) × Sought l.time (rows l.words l.came) l.k
-
-abbrev pub decreases-search : goal.decreases-search
-decreases-search l = 4 - l.k
+invariant-search l = (l.found ≡ None) × Sought l.time (rows l.words l.came) l.k

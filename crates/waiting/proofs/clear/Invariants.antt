@@ -1,12 +1,8 @@
 -- Zeros are stored one by one, then the length.
-use Prim.Native.Nat.{◌≤◌, ◌-◌}
 use Rattle.waiting.specs.Layout.{rows}
 use Rattle.waiting.proofs.Keeping.{Clearing}
 use Rattle.waiting.proofs.clear.Given as goal
 
 abbrev pub invariant-loop-i : goal.invariant-loop-i
 invariant-loop-i l =
-    (l.n ≤ l.i) × (l.i ≤ l.m) × Clearing l.n (rows l.initial.words l.initial.came) l.i (rows l.words l.came)
-
-abbrev pub decreases-loop-i : goal.decreases-loop-i
-decreases-loop-i l = l.m - l.i
+    Clearing l.n (rows l.initial.words l.initial.came) l.i (rows l.words l.came)

@@ -1,51 +1,38 @@
-use mathlib.Core.Path.{refl, sym, ◌∙◌}
+use mathlib.Core.Path.{refl}
 use native.Mathlib.Omega.{arith}
-use Rattle.waiting.proofs.Wholes.{lent_sized, part_tight, lent_short}
-use Rattle.waiting.proofs.Searching.{expiring, held_now, expires_next, few_gone, all-expired, expired_sized}
+use Rattle.waiting.proofs.Wholes.{part_tight, lent_short}
+use Rattle.waiting.proofs.Searching.{held_now, expires_next, few_gone, all-expired}
 use Rattle.waiting.proofs.expire_all.Goals as goal
-
-pub loop-k-init : goal.loop-k-init
-loop-k-init c = (omega arith, expiring _ _ c.requires)
-
-pub slice_bounds-expire-end : goal.slice_bounds-expire-end
-slice_bounds-expire-end c =
-    let l = c.loop-k in
-    omega (arith, (held_now _ _ c.requires l.k l.gone _ (omega arith) l.invariant.1).size.words)
-
-pub expire-requires : goal.expire-requires
-expire-requires c =
-    let l = c.loop-k in
-    let h = held_now _ _ c.requires l.k l.gone _ (omega arith) l.invariant.1 in record {
-      sized = lent_sized _ h l.k (omega arith);
-      packed = part_tight _ h l.k (omega arith);
-      came_bound = lent_short _ h l.k (omega arith);
-    }
 
 pub overflow_add-gone : goal.overflow_add-gone
 overflow_add-gone c =
     let l = c.loop-k in
     let e = c.expire.ensures in
-    let n = expires_next _ _ c.requires l.k l.gone _ (omega arith) l.invariant.1 _ _ _ e.left e.gone refl in
+    let n = expires_next _ _ c.requires l.k l.gone _ (omega arith) l.invariant _ _ _ e.left e.gone refl in
     omega (arith, few_gone _ _ c.requires _ _ _ n)
 
 pub loop-k-preserved : goal.loop-k-preserved
 loop-k-preserved c =
     let l = c.loop-k in
     let e = c.expire.ensures in
-    (omega arith, expires_next _ _ c.requires l.k l.gone _ (omega arith) l.invariant.1 _ _ _ e.left e.gone refl)
+    expires_next _ _ c.requires l.k l.gone _ (omega arith) l.invariant _ _ _ e.left e.gone refl
 
-pub shape_of-words : goal.shape_of-words
-shape_of-words c =
+pub expire-requires-clause-packed : goal.expire-requires-clause-packed
+expire-requires-clause-packed c =
     let l = c.loop-k in
-    (expired_sized _ _ c.requires l.k l.gone _ (omega arith) l.invariant.1).words ∙ sym c.requires.size.words
+    part_tight _ (held_now _ _ c.requires l.k l.gone _ (omega arith) l.invariant) l.k (omega arith)
 
-pub shape_of-came : goal.shape_of-came
-shape_of-came c =
+pub expire-requires-clause-came_bound : goal.expire-requires-clause-came_bound
+expire-requires-clause-came_bound c =
     let l = c.loop-k in
-    (expired_sized _ _ c.requires l.k l.gone _ (omega arith) l.invariant.1).came ∙ sym c.requires.size.came
+    lent_short _ (held_now _ _ c.requires l.k l.gone _ (omega arith) l.invariant) l.k (omega arith)
 
-pub returns : goal.returns
-returns c =
+pub returns-clause-gone : goal.returns-clause-gone
+returns-clause-gone c =
     let l = c.loop-k in
-    let both = all-expired c.args.time _ c.requires l.k l.gone _ (omega arith) l.invariant.1 in
-    record { gone = both.0; left = both.1 }
+    (all-expired c.args.time _ c.requires l.k l.gone _ (omega arith) l.invariant).0
+
+pub returns-clause-left : goal.returns-clause-left
+returns-clause-left c =
+    let l = c.loop-k in
+    (all-expired c.args.time _ c.requires l.k l.gone _ (omega arith) l.invariant).1

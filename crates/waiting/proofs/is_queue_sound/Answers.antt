@@ -14,24 +14,23 @@ returns-then-n-gt-PLACES c =
 pub loop-i-init : goal.loop-i-init
 loop-i-init c =
     let n = c.len-n.ensures in
-    (omega arith, n, fitting _ _ _ c.requires (omega (arith, n)))
+    (n, fitting _ _ _ c.requires (omega (arith, n)))
 
 pub returns-then-not-is_place_sound : goal.returns-then-not-is_place_sound
 returns-then-not-is_place_sound c =
     let l = c.loop-i in
-    sym (bad_place c.args.most c.args.time _ c.requires _ l.invariant.1 l.since l.i l.invariant.2 (omega arith) _
+    sym (bad_place c.args.most c.args.time _ c.requires _ l.invariant.0 l.since l.i l.invariant.1 (omega arith) _
     c.cell_at-c.ensures (sym c.is_place_sound.ensures ∙ c.if-not-is_place_sound.true))
 
 pub loop-i-preserved : goal.loop-i-preserved
 loop-i-preserved c =
     let l = c.loop-i in (
-      omega arith,
-      l.invariant.1,
-      good_place c.args.most c.args.time _ c.requires _ l.invariant.1 l.since l.i l.invariant.2 (omega arith) _
+      l.invariant.0,
+      good_place c.args.most c.args.time _ c.requires _ l.invariant.0 l.since l.i l.invariant.1 (omega arith) _
           c.cell_at-c.ensures (sym c.is_place_sound.ensures ∙ c.if-not-is_place_sound.false),
     )
 
 pub returns : goal.returns
 returns c =
     let l = c.loop-i in
-    sym (all_fit c.args.most c.args.time _ c.requires l.since l.i l.invariant.2 (omega arith))
+    sym (all_fit c.args.most c.args.time _ c.requires l.since l.i l.invariant.1 (omega arith))

@@ -1,14 +1,11 @@
 -- A test of the way, then of how many live packets wait.
-use mathlib.Core.Path.{sym, ap}
+use mathlib.Core.Path.{ap}
 use lib.Dec.{leb}
-use borrow.Author.Tests.{eq-eqb, ne_eqb}
+use borrow.Author.Tests.{eq-eqb}
 use Rattle.rules.specs.Profiles.{room}
 use Rattle.waiting.specs.Layout.{rows}
 use Rattle.gate.proofs.Offering.{live_count}
 use Rattle.gate.proofs.Head.is_full.Goals as goal
-
-pub returns-then-self-ne1 : goal.returns-then-self-ne1
-returns-then-self-ne1 c = sym (rw (ne_eqb c.args.self.oldway 1 c.if-self-ne1.true))
 
 pub returns : goal.returns
 returns c =

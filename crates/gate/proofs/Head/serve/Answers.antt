@@ -1,15 +1,13 @@
 -- Nothing waits, or the packet found waits or goes.
-use mathlib.Core.Path.{sym, ◌∙◌}
 use Rattle.gate.specs.declared.State.{State}
 use Rattle.gate.specs.Layout.{state_with}
-use Rattle.gate.specs.Steps.{Settled}
 use Rattle.gate.proofs.Views.{known}
 use Rattle.gate.proofs.Entry.{turned}
-use Rattle.gate.proofs.Polling.{waitable, serves_none, in_four, serves_later, may_admit, serves_now, sent_settled}
+use Rattle.gate.proofs.Polling.{waitable, serves_none, in_four, serves_later, may_admit, serves_now}
 use Rattle.gate.proofs.Head.serve.Goals as goal
 
-pub choose-found-requires : goal.choose-found-requires
-choose-found-requires c =
+pub choose-requires : goal.choose-requires
+choose-requires c =
     let served : State =
     state_with c.args.self c.args.queues.now c.args.came.now c.args.air.now c.requires.loads c.requires.above
     c.args.waits.now in
@@ -23,58 +21,31 @@ left_for-left-requires c =
     let all = waitable served c.requires.settled in
     record { steerable = all.0; lasting = all.1.0; noting = all.1.1 }
 
-pub returns-then-left-ne0 : goal.returns-then-left-ne0
-returns-then-left-ne0 c =
+pub returns-then-left-ne0-clause-done : goal.returns-then-left-ne0-clause-done
+returns-then-left-ne0-clause-done c =
     λ g.
-    turned _ _ _ _ _ _ _ _ _ _ c.answered-then-left-ne0.ensures
-    (serves_later c.args.self _ _ _ _ g _ c.choose-found.ensures _ _ c.in-At.is _
+    turned c.answered-then-left-ne0.ensures
+    (serves_later c.args.self _ _ _ _ g _ c.choose.ensures _ c.in-Some.is _
     c.left_for-left.ensures c.if-left-ne0.true)
 
 pub packet_of-p-requires : goal.packet_of-p-requires
 packet_of-p-requires c =
-    in_four c.args.self _ _ _ _ c.requires _ c.choose-found.ensures _ _ c.in-At.is
+    in_four c.args.self _ _ _ _ c.requires _ c.choose.ensures _ c.in-Some.is
 
 pub admit-next-requires : goal.admit-next-requires
 admit-next-requires c =
-    may_admit c.args.self _ _ _ _ c.requires _ c.choose-found.ensures _ _ c.in-At.is _
+    may_admit c.args.self _ _ _ _ c.requires _ c.choose.ensures _ c.in-Some.is _
     c.left_for-left.ensures c.if-left-ne0.false
 
-pub returns-in-Nothing : goal.returns-in-Nothing
-returns-in-Nothing c =
+pub returns-in-None-clause-done : goal.returns-in-None-clause-done
+returns-in-None-clause-done c =
     λ g.
-    turned _ _ _ _ _ _ _ _ _ _ c.answered.ensures
-    (serves_none c.args.self _ _ _ _ g _ c.choose-found.ensures c.in-Nothing.is)
+    turned c.answered.ensures
+    (serves_none c.args.self _ _ _ _ g _ c.choose.ensures c.in-None.is)
 
-pub shape_of-queues-else-left-ne0 : goal.shape_of-queues-else-left-ne0
-shape_of-queues-else-left-ne0 c =
-    let left : let l = c.admit-next.new in
-    Settled (state_with c.admit-next.result l.queues l.came l.air c.requires.loads c.requires.above
-    c.args.waits.now) =
-    sent_settled c.args.self _ _ _ _ c.requires _ c.choose-found.ensures _ _ c.in-At.is _
-    c.left_for-left.ensures c.if-left-ne0.false _ _ _ _ c.admit-next.ensures in
-    left.queues.words ∙ sym c.requires.settled.queues.words
-
-pub shape_of-came-else-left-ne0 : goal.shape_of-came-else-left-ne0
-shape_of-came-else-left-ne0 c =
-    let left : let l = c.admit-next.new in
-    Settled (state_with c.admit-next.result l.queues l.came l.air c.requires.loads c.requires.above
-    c.args.waits.now) =
-    sent_settled c.args.self _ _ _ _ c.requires _ c.choose-found.ensures _ _ c.in-At.is _
-    c.left_for-left.ensures c.if-left-ne0.false _ _ _ _ c.admit-next.ensures in
-    left.queues.came ∙ sym c.requires.settled.queues.came
-
-pub shape_of-air : goal.shape_of-air
-shape_of-air c =
-    let left : let l = c.admit-next.new in
-    Settled (state_with c.admit-next.result l.queues l.came l.air c.requires.loads c.requires.above
-    c.args.waits.now) =
-    sent_settled c.args.self _ _ _ _ c.requires _ c.choose-found.ensures _ _ c.in-At.is _
-    c.left_for-left.ensures c.if-left-ne0.false _ _ _ _ c.admit-next.ensures in
-    left.air ∙ sym c.requires.settled.air
-
-pub returns-else-left-ne0 : goal.returns-else-left-ne0
-returns-else-left-ne0 c =
+pub returns-else-left-ne0-clause-done : goal.returns-else-left-ne0-clause-done
+returns-else-left-ne0-clause-done c =
     λ g.
-    turned _ _ _ _ _ _ _ _ _ _ c.answered-in-At.ensures
-    (serves_now c.args.self _ _ _ _ g _ c.choose-found.ensures _ _ c.in-At.is _
+    turned c.answered-in-Some.ensures
+    (serves_now c.args.self _ _ _ _ g _ c.choose.ensures _ c.in-Some.is _
     c.left_for-left.ensures c.if-left-ne0.false _ _ _ _ c.admit-next.ensures _ c.packet_of-p.ensures)

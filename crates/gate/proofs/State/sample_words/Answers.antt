@@ -5,16 +5,16 @@ use Rattle.gate.specs.Layout.{sound_state, call_on}
 use Rattle.gate.proofs.Views.{engine}
 use Rattle.gate.proofs.State.sample_words.Goals as goal
 
-pub returns-in-Busy : goal.returns-in-Busy
+pub returns-in-Some : goal.returns-in-Some
 unfolding call_on sound_state
-returns-in-Busy c =
+returns-in-Some c =
     c.step.ensures
     ∙ on_words engine c.args.self c.args.stamp c.args.probes c.args.ws.now _
-    (sym c.read_sample-sample.ensures ∙ c.in-Busy.is)
+    (sym c.read_sample.ensures ∙ c.in-Some.is)
 
-pub returns-in-Bad : goal.returns-in-Bad
+pub returns-in-None : goal.returns-in-None
 unfolding call_on sound_state
-returns-in-Bad c =
-    c.step-in-Bad.ensures
+returns-in-None c =
+    c.step-in-None.ensures
     ∙ on_bad_words engine c.args.self c.args.stamp 1 0 c.args.probes c.args.ws.now one-of-none
-    (sym c.read_sample-sample.ensures ∙ c.in-Bad.is)
+    (sym c.read_sample.ensures ∙ c.in-None.is)

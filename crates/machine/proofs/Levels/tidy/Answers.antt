@@ -9,6 +9,6 @@ returns c =
     let l = c.args.self in
     let above_sized : length l.above ≡ 8 = omega arith in
     let waits_sized : length l.waits ≡ 8 = omega arith in
-    let above = rw (above_sized, c.fewer-n.ensures) at c.clear.ensures in
-    let waits = rw (waits_sized, c.fewer-n.ensures) at c.clear-2.ensures in
-    λ i. levels_of (c.fewer-n.ensures i) l.wait (above i) (waits i)
+    let above = rw (above_sized, c.min-n.ensures) at c.clear.ensures in
+    let waits = rw (waits_sized, c.min-n.ensures) at c.clear-2.ensures in
+    λ i. levels_of (c.min-n.ensures i) l.wait (above i) (waits i)

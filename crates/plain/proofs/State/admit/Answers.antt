@@ -13,8 +13,8 @@ note-self-requires c =
       l_value = k.groups.none-aged;
     }
 
-pub overflow_add-counts : goal.overflow_add-counts
-overflow_add-counts c = let k = known _ c.requires.given in omega (arith, k.sum, k.groups.most)
+pub overflow_add-self : goal.overflow_add-self
+overflow_add-self c = let k = known _ c.requires.given in omega (arith, k.sum, k.groups.most)
 
 pub returns : goal.returns
 returns c = admitted c.args.self c.args.p _ _

@@ -1,91 +1,56 @@
 -- Refused by the checks of every call, by its own numbers, for lack of room; or joined to those that are left.
-use mathlib.Core.Path.{◌≡◌, sym, ◌∙◌, ap}
-use native.Mathlib.Omega.{arith}
-use Rattle.rules.specs.Refusals.{first_of}
+use Rattle.std.proofs.Common.{◌≡◌, refl, sym, ◌∙◌, ap, arith}
 use Rattle.model.specs.declared.Packet.{Packet}
 use Rattle.model.specs.Calls.{offer}
-use Rattle.model.specs.Effects.{refreshed}
-use Rattle.model.specs.Gate.{number_checks, own_checks}
-use Rattle.checks.specs.Checks.{Entered}
-use Rattle.checks.proofs.Engine.{sound_view}
+use Rattle.model.specs.Gate.{number_checks}
 use Rattle.checks.proofs.Entry.{own_refused, refreshed-sound}
-use Rattle.checks.proofs.Offering.{own_first, then_rest, offer_priority, offer_taken}
-use Rattle.plain.specs.Layout.{view_of, sound_state, call_on}
+use Rattle.checks.proofs.Offering.{own_first, offer_priority, offer_taken}
+use Rattle.rules.proofs.Refusals.{some_number}
+use Rattle.plain.specs.Layout.{sound_state, call_on}
 use Rattle.plain.proofs.Views.{engine, given_of}
-use Rattle.plain.proofs.Doing.{room_at}
-use Rattle.plain.proofs.Entry.{entered, entry_refused}
+use Rattle.plain.proofs.Doing.{room_last}
+use Rattle.plain.proofs.Entry.{entered, given, passed, refused_in_order}
 use Rattle.plain.proofs.State.offer.Goals as goal
 
-pub returns-then-number-ne0 : goal.returns-then-number-ne0
-returns-then-number-ne0 c =
+pub returns-in-Err : goal.returns-in-Err
+returns-in-Err c =
+    let a = c.args in
     c.refused.ensures
-    ∙ entry_refused c.args.self (offer c.args.stamp c.args.o) _ c.refusal-number.ensures.exact
-    c.if-number-ne0.true
-
-pub returns-then-own-ne0 : goal.returns-then-own-ne0
-unfolding call_on sound_state
-returns-then-own-ne0 c =
-    let enters : Entered (sound_state c.args.self) c.args.self.clock
-    c.args.stamp =
-    entered c.args.self c.args.stamp (sym c.refusal-number.ensures.exact ∙ c.if-number-ne0.false) in
-    c.refused-then-own-ne0.ensures
-    ∙ own_refused engine c.args.self (offer c.args.stamp c.args.o) enters _
-    (own_first c.args.self.profile c.args.o _ _ (sym c.offer_refusal-own.ensures) c.if-own-ne0.true)
-    c.if-own-ne0.true
+    ∙ refused_in_order a.self (offer a.stamp a.o) (number_checks a.self.profile a.o) _ c.in-Err.ensures.exact
+    (λ n e some. own_first a.self.profile a.o _ n e some)
 
 pub refresh-s-requires : goal.refresh-s-requires
-unfolding sound_state
 refresh-s-requires c =
-    let enters : Entered (sound_state c.args.self) c.args.self.clock
-    c.args.stamp =
-    entered c.args.self c.args.stamp (sym c.refusal-number.ensures.exact ∙ c.if-number-ne0.false) in
-    (c.refusal-number.ensures.tight c.if-number-ne0.false, sound_view engine _ enters.judged_sound)
+    let a = c.args in
+    let passes = c.in_default.ensures in
+    given a.self a.stamp (passes.tight refl) (passed a.self a.stamp (number_checks a.self.profile a.o) passes.exact).0
 
-pub returns-then-room-ne0 : goal.returns-then-room-ne0
+pub returns-in-Err-check_room : goal.returns-in-Err-check_room
 unfolding call_on sound_state
-returns-then-room-ne0 c =
-    let enters : Entered (sound_state c.args.self) c.args.self.clock
-    c.args.stamp =
-    entered c.args.self c.args.stamp (sym c.refusal-number.ensures.exact ∙ c.if-number-ne0.false) in
-    let allowed : first_of (number_checks c.args.self.profile c.args.o)
-    ≡ 0 =
-    sym c.offer_refusal-own.ensures ∙ c.if-own-ne0.false in
-    let room : first_of (own_checks (view_of c.args.self) (offer c.args.stamp c.args.o)) ≡ c.room_refusal-room.result =
-    then_rest c.args.self.profile c.args.o _ allowed
-    ∙ sym (room_at c.refresh-s.result (refreshed (view_of c.args.self) c.args.stamp) c.args.o.priority
-    c.refresh-s.ensures)
-    ∙ sym c.room_refusal-room.ensures in
-    c.refused-then-room-ne0.ensures
-    ∙ own_refused engine c.args.self (offer c.args.stamp c.args.o) enters _ room c.if-room-ne0.true
+returns-in-Err-check_room c =
+    let a = c.args in
+    let p = passed a.self a.stamp (number_checks a.self.profile a.o) c.in_default.ensures.exact in
+    c.refused-in-Err-check_room.ensures
+    ∙ own_refused engine a.self (offer a.stamp a.o) (entered a.self a.stamp (sym p.0)) _
+    (room_last a.self a.stamp a.o c.refresh-s.result c.refresh-s.ensures (sym p.1)
+    ∙ sym c.in-Err-check_room.ensures) (some_number _)
 
 pub join-requires : goal.join-requires
 unfolding sound_state
 join-requires c =
-    let enters : Entered (sound_state c.args.self) c.args.self.clock
-    c.args.stamp =
-    entered c.args.self c.args.stamp (sym c.refusal-number.ensures.exact ∙ c.if-number-ne0.false) in
-    let allowed : first_of (number_checks c.args.self.profile c.args.o)
-    ≡ 0 =
-    sym c.offer_refusal-own.ensures ∙ c.if-own-ne0.false in
-    let priority : c.packet_of-p.result.priority ≡ c.args.o.priority =
-    ap (λ (p : Packet). p.priority) c.packet_of-p.ensures in record {
-      given = given_of _ _ c.refresh-s.ensures (refreshed-sound engine c.args.self c.args.stamp enters);
-      priority_le_last_priority = omega (arith, priority, offer_priority c.args.self.profile c.args.o allowed);
+    let a = c.args in
+    let p = passed a.self a.stamp (number_checks a.self.profile a.o) c.in_default.ensures.exact in
+    let priority : c.packet_of.result.priority ≡ a.o.priority =
+    ap (λ (p : Packet). p.priority) c.packet_of.ensures in record {
+      given = given_of _ _ c.refresh-s.ensures (refreshed-sound engine a.self a.stamp (entered a.self a.stamp (sym p.0)));
+      priority_le_last_priority = omega (arith, priority, offer_priority a.self.profile a.o (sym p.1));
     }
 
 pub returns : goal.returns
 unfolding call_on sound_state
 returns c =
-    let enters : Entered (sound_state c.args.self) c.args.self.clock
-    c.args.stamp =
-    entered c.args.self c.args.stamp (sym c.refusal-number.ensures.exact ∙ c.if-number-ne0.false) in
-    let allowed : first_of (number_checks c.args.self.profile c.args.o)
-    ≡ 0 =
-    sym c.offer_refusal-own.ensures ∙ c.if-own-ne0.false in
-    let room : first_of (own_checks (view_of c.args.self) (offer c.args.stamp c.args.o)) ≡ c.room_refusal-room.result =
-    then_rest c.args.self.profile c.args.o _ allowed
-    ∙ sym (room_at c.refresh-s.result (refreshed (view_of c.args.self) c.args.stamp) c.args.o.priority
-    c.refresh-s.ensures)
-    ∙ sym c.room_refusal-room.ensures in
-    offer_taken engine c.args.self c.args.stamp enters c.args.o c.refresh-s.result c.join.result _
-    (room ∙ c.if-room-ne0.false) c.refresh-s.ensures c.packet_of-p.ensures c.join.ensures
+    let a = c.args in
+    let p = passed a.self a.stamp (number_checks a.self.profile a.o) c.in_default.ensures.exact in
+    offer_taken engine a.self a.stamp (entered a.self a.stamp (sym p.0)) a.o c.refresh-s.result c.join.result _
+    (room_last a.self a.stamp a.o c.refresh-s.result c.refresh-s.ensures (sym p.1)
+    ∙ sym c.in_default-check_room.ensures) c.refresh-s.ensures c.packet_of.ensures c.join.ensures

@@ -12,8 +12,8 @@ use Rattle.plain.proofs.State.refresh.Goals as goal
 pub overflow_sub-gone : goal.overflow_sub-gone
 overflow_sub-gone c = shorter _ _ _ c.expire-left.ensures
 
-pub overflow_add-counts : goal.overflow_add-counts
-overflow_add-counts c =
+pub overflow_add-s : goal.overflow_add-s
+overflow_add-s c =
     let a = c.advance-s in
     let k = known _ c.requires in
     let l = same_line c.args.self a.result c.args.stamp c.requires.0 a.ensures in

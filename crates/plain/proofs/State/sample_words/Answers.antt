@@ -5,16 +5,16 @@ use Rattle.plain.specs.Layout.{sound_state, call_on}
 use Rattle.plain.proofs.Views.{engine}
 use Rattle.plain.proofs.State.sample_words.Goals as goal
 
-pub returns-in-Busy : goal.returns-in-Busy
+pub returns-in-Some : goal.returns-in-Some
 unfolding call_on sound_state
-returns-in-Busy c =
+returns-in-Some c =
     c.sample_count.ensures
     ∙ on_words engine c.args.self c.args.stamp c.args.probes c.args.ws.now _
-    (sym c.read_sample-sample.ensures ∙ c.in-Busy.is)
+    (sym c.read_sample.ensures ∙ c.in-Some.is)
 
-pub returns-in-Bad : goal.returns-in-Bad
+pub returns-in-None : goal.returns-in-None
 unfolding call_on sound_state
-returns-in-Bad c =
-    c.sample_count-in-Bad.ensures
+returns-in-None c =
+    c.sample_count-in-None.ensures
     ∙ on_bad_words engine c.args.self c.args.stamp 1 0 c.args.probes c.args.ws.now one-of-none
-    (sym c.read_sample-sample.ensures ∙ c.in-Bad.is)
+    (sym c.read_sample.ensures ∙ c.in-None.is)

@@ -1,0 +1,17 @@
+-- The checks come in the order of the table's rows, so what is returned is the number of the first that holds.
+use Rattle.std.proofs.Common.{◌≡◌, arith, rules}
+use Rattle.std.specs.Prelude.{Err}
+use Rattle.std.proofs.lemmas.Bool.Decides.{nat_tests}
+use Rattle.rules.specs.Refusals.{first_of}
+use Rattle.cstack.proofs.Numbers.{numbered}
+use Rattle.cstack.proofs.check_wanted.Goals as goal
+
+pub returns-in_err-check_profile : goal.returns-in_err-check_profile
+unfolding first_of
+returns-in_err-check_profile c =
+    let e : c.from_residual.result ≡ Err c.in_err-check_profile.field-0.0 = search rules in
+    rw e (grind (arith, nat_tests, numbered c.in_err-check_profile.field-0.0))
+
+pub returns : goal.returns
+unfolding first_of
+returns c = grind (arith, nat_tests)
