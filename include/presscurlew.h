@@ -230,7 +230,7 @@ uint32_t presscurlew_layout(void);
  * - After presscurlew_make it waits: the first poll comes 1,000,000 us or more after the make (samples and offers may
  *   come before). A fresh gate knows nothing of what was sent before it, so without this second a host that restarts
  *   may send more than the figures above allow; with it they hold across any number of restarts, whatever the
- *   profiles (proved: crates/label, restarts-keep and waiting-restarts). Only a host that goes on with its stored
+ *   profiles (proved: crates/label, restarts_keep and waiting_restarts). Only a host that goes on with its stored
  *   gate, the very one that its last call left, on a clock that has run on for less than 35 minutes, makes nothing
  *   and need not wait. presscurlew_is_sound says whether what it has read back can be a gate.
  * - It sends a packet when, and only when, a poll answers SENT, and each one once.
