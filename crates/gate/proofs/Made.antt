@@ -68,8 +68,8 @@ module _ (profile oldway stamp : ℕ) (list : Levels) where
   module _ {queues came air loads : List ℕ} (q : queues ≡ zeros 64) (c : came ≡ zeros 20) (a : air ≡ zeros 40)
       (l : loads ≡ zeros 50) {above waits : List ℕ} {head : Head} where
     -- what a make that is refused leaves
-    pub refused : above ≡ zeros 8 → waits ≡ zeros 8 → head ≡ no_head → {answer : Answer} → (r : ℕ) → answer ≡ Refused r → r ≡ number
-        → (r ≡ 0 → ⊥) → outcome (state_with head queues came air loads above waits) answer ≡ make_state making
+    pub refused : above ≡ zeros 8 → waits ≡ zeros 8 → head ≡ no_head → {answer : Answer} → (r : ℕ) → answer ≡ Refused r
+        → r ≡ number → (r ≡ 0 → ⊥) → outcome (state_with head queues came air loads above waits) answer ≡ make_state making
     refused t w h r e n p =
         (λ i. outcome (state_with (h i) (q i) (c i) (a i) (l i) (t i) (w i)) ((e ∙ ap Refused n) i))
         ∙ zeros_refused (ne_eqb number 0 (λ z. p (n ∙ z)))
@@ -80,5 +80,6 @@ module _ (profile oldway stamp : ℕ) (list : Levels) where
     made k e t w h z =
         (λ i. outcome (state_with (h i) (q i) (c i) (a i) (l i) (t i) (w i)) Ready)
         ∙ ap (λ (x : Levels).
-        outcome (state_with (fresh_head profile oldway x stamp) (zeros 64) (zeros 20) (zeros 40) (zeros 50) x.above x.waits) Ready) e
+        outcome
+        (state_with (fresh_head profile oldway x stamp) (zeros 64) (zeros 20) (zeros 40) (zeros 50) x.above x.waits) Ready) e
         ∙ zeros_made (eq-eqb number 0 z)

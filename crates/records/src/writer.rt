@@ -19,8 +19,8 @@ const MOST_IN_BYTE: u32 = 255;
 
 const MOST_IN_TWO: u32 = 65535;
 
-// Puts the lowest bytes of a number from `at` on, as many as its field has. One by one: `copy_from_slice` compares
-// addresses as numbers, which no module of a board may (docs/BOARDS.md).
+// Puts the lowest bytes of a number from `at` on, as many as its field has. One by one: `copy_from_slice`
+// compares addresses as numbers, which no module of a board may (docs/BOARDS.md).
 fn put<const BYTES: usize>(log: &mut [u8], at: usize, n: u32)
     requires width { BYTES ≤ 4 }
     requires room { at + BYTES ≤ length log.old }

@@ -17,7 +17,10 @@ returns-in_default c =
 pub returns-then-not-sound : goal.returns-then-not-sound
 returns-then-not-sound c =
     let refused = call_unsound _ _ (sym c.requires ∙ c.if-not-sound.true) in
-    record { step = rw c.from-then-not-sound.ensures (sym refused) ∙ sym (step_call _ c.args.rec _ c.in-Some.ensures); told = c.requires }
+    record {
+      step = rw c.from-then-not-sound.ensures (sym refused) ∙ sym (step_call _ c.args.rec _ c.in-Some.ensures);
+      told = c.requires;
+    }
 
 pub step_sound-requires : goal.step_sound-requires
 step_sound-requires c = sym c.requires ∙ c.if-not-sound.false

@@ -81,7 +81,8 @@ returns-in-Offered-clause-done c =
     let given = state_on a.self.now in
     let passed = enters given a.request a.stamp c.requires.judged_sound _ c.in_default.ensures c.in-Offered.is in
     called given a.request a.stamp c.requires.judged_sound c.in-Offered.is
-    (offer_taken given a.stamp _ passed _ _ _ _ _ c.advance-next.ensures.done c.clear-cleared.ensures.done _ _ _ c.join-self.ensures.done)
+    (offer_taken given a.stamp _ passed _ _ _ _ _ c.advance-next.ensures.done c.clear-cleared.ensures.done _ _ _
+    c.join-self.ensures.done)
 
 pub serve-turn-requires : goal.serve-turn-requires
 serve-turn-requires c =
@@ -98,7 +99,8 @@ returns-clause-done c =
     let polled = is_polled a.request c.in_default-request.not-Count c.in_default-request-2.not-Offered in
     let passed = enters given a.request a.stamp c.requires.judged_sound _ c.in_default.ensures polled in
     called given a.request a.stamp c.requires.judged_sound polled
-    (poll_served given a.stamp passed _ _ _ _ _ c.advance-next.ensures.done c.clear-cleared.ensures.done _ _ _ _ _ c.serve-turn.ensures.done)
+    (poll_served given a.stamp passed _ _ _ _ _ c.advance-next.ensures.done c.clear-cleared.ensures.done _ _ _ _ _
+    c.serve-turn.ensures.done)
 
 pub returns-in-Count-clause-roomy : goal.returns-in-Count-clause-roomy
 returns-in-Count-clause-roomy c =
