@@ -1,18 +1,16 @@
 -- A request is refused by one of its checks, or passes them all, and its call does then.
 use Prim.Native.Nat.{ℕ, ◌<◌}
-use mathlib.Core.Path.{◌≡◌, refl, ap, ap₂, sym, ◌∙◌}
+use mathlib.Core.Path.{◌≡◌, refl, ap, sym, ◌∙◌}
 use mathlib.Core.Bool.{true, false}
 use mathlib.Core.List.{List}
 use native.Mathlib.Omega.{arith}
 use Rattle.rules.specs.Clock.{step_of, goes_back, passes_end}
-use Rattle.rules.specs.declared.refusal.Refusal.{Refusal}
-use Rattle.rules.specs.Refusals.{number_of, Check, first_of}
+use Rattle.rules.specs.Refusals.{Check, first_of}
 use Rattle.rules.specs.Samples.{bad_count}
 use Rattle.rules.proofs.Cases.{split}
 use Rattle.rules.proofs.Refusals.{of_none}
 use Rattle.rules.proofs.Tests.{tested}
 use Rattle.model.specs.declared.Clock.{Clock}
-use Rattle.model.specs.declared.Answer.{Answer}
 use Rattle.model.specs.declared.Answer.TheVariants.{Refused}
 use Rattle.model.specs.declared.Offer.{Offer}
 use Rattle.model.specs.declared.Packet.{Packet}
@@ -27,10 +25,9 @@ use Rattle.checks.proofs.Entry.{entered, Passed, by_number, passed}
 use Rattle.checks.proofs.Offering.{own_first, then_rest}
 use Rattle.waiting.specs.Layout.{waiting_in}
 use Rattle.gate.specs.declared.Head.{Head}
-use Rattle.gate.specs.declared.Turn.{Turn}
 use Rattle.gate.specs.declared.State.{State}
 use Rattle.gate.specs.declared.Outcome.{Outcome}
-use Rattle.gate.specs.Layout.{state_with, rows_in, view_of, sound_state, outcome, call_on}
+use Rattle.gate.specs.Layout.{rows_in, view_of, sound_state, outcome, call_on}
 use Rattle.gate.specs.Steps.{live_of, offer_checks, request_checks, refusals}
 use Rattle.gate.proofs.Views.{engine, said}
 
@@ -98,13 +95,6 @@ good_count s stamp busy probes e = (of_none (own_checks (view_of s) (count stamp
 pub good_priority : (s : State) (stamp : ℕ) (o : Offer) → Passed engine s (offer stamp o) → o.priority < 4
 good_priority s stamp o e =
     let n = of_none (own_checks (view_of s) (offer stamp o)) (omega arith) e.1 in omega (tested, n.0)
-
--- a turn that leaves a head with an answer
-pub turned : {h : Head} {words came air loads above waits : List ℕ} {t : Turn} {a : Answer} {o : Outcome}
-    → (t.head ≡ h) × (t.answer ≡ a) → outcome (state_with h words came air loads above waits) a ≡ o
-    → outcome (state_with t.head words came air loads above waits) t.answer ≡ o
-turned {words = words} {came = came} {air = air} {loads = loads} {above = above} {waits = waits} e f =
-    ap₂ (λ (x : Head) (b : Answer). outcome (state_with x words came air loads above waits) b) e.0 e.1 ∙ f
 
 -- neither a sample nor an offer
 pub is_polled : (r : Request) → ((busy probes : ℕ) → r ≡ Count busy probes → ⊥) → ((o : Offer) → r ≡ Offered o → ⊥)

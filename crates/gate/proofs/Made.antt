@@ -1,11 +1,13 @@
 -- What a make leaves in a head and in wiped rows, with the list that it keeps, is the model's state laid out.
-use Prim.Native.Nat.{ℕ, ◌≤◌}
+use Prim.Native.Nat.{ℕ, zero, suc, ◌-◌, ◌≤◌}
 use mathlib.Core.Path.{◌≡◌, refl, ap, sym, ◌∙◌}
 use mathlib.Core.Bool.{true, false}
-use mathlib.Core.List.{List}
+use mathlib.Core.List.{List, ◌++◌}
+use native.Mathlib.Nat.{sub-zero, zero-sub, suc-sub-suc}
 use native.Mathlib.Omega.{arith}
 use lib.Dec.{eqb}
-use lib.ListN.{replicate}
+use lib.ListN.{length, take, drop, replicate}
+use lib.Seq.{length-take-le}
 use borrow.Author.Tests.{eq-eqb, ne_eqb}
 use Rattle.rules.specs.Refusals.{first_of}
 use Rattle.rules.proofs.Cases.{split}
@@ -36,6 +38,16 @@ pub zero_state : {head : Head} → head ≡ no_head
     → state_with head (zeros 64) (zeros 20) (zeros 40) (zeros 50) (zeros 8) (zeros 8) ≡ state_of not_live
 zero_state h =
     ap (λ (x : Head). state_with x (zeros 64) (zeros 20) (zeros 40) (zeros 50) (zeros 8) (zeros 8)) h ∙ all-zero
+
+drop_zeros : (k m : ℕ) → drop k (zeros m) ≡ zeros (m - k)
+drop_zeros zero m = rw (sub-zero m)
+drop_zeros (suc k) zero = rw (zero-sub (suc k))
+drop_zeros (suc k) (suc m) = drop_zeros k m ∙ ap zeros (sym (suc-sub-suc m k))
+
+-- a list's levels in a wiped row
+pub kept_row : (k : ℕ) (xs : List ℕ) → k ≤ 8 → length xs ≡ 8 → take k xs ++ drop k (zeros 8) ≡ filled 8 0 (take k xs)
+unfolding filled
+kept_row k xs h l = rw (length-take-le k xs (omega (arith, h, l)), drop_zeros k 8)
 
 -- the list that is kept is no longer than its room
 pub kept_few : (profile : ℕ) (l : Levels) → (list_kept profile l).len ≤ 8

@@ -4,11 +4,12 @@ use Rattle.gate.specs.declared.lent.Gate.{Gate}
 use Rattle.gate.specs.Lent.{SameRows}
 
 pub same_rows : (g : Gate) → SameRows g g
-same_rows g = record { queues = refl; came = refl; air = refl; loads = refl; above = refl; waits = refl }
+same_rows g = record { head = refl; queues = refl; came = refl; air = refl; loads = refl; above = refl; waits = refl }
 
 pub same_rows_on : {a b c : Gate} → SameRows a b → SameRows b c → SameRows a c
 same_rows_on s t =
     record {
+      head = t.head ∙ s.head;
       queues = t.queues ∙ s.queues;
       came = t.came ∙ s.came;
       air = t.air ∙ s.air;

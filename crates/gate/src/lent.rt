@@ -1,5 +1,5 @@
-// A gate where a host keeps it: its numbers by value, and its rows lent. A call changes the first four rows,
-// and only reads the list.
+// A gate where a host keeps it: its numbers and its rows, lent. A call changes the numbers and the first four
+// rows where they lie, and only reads the list.
 ghost use Rattle.std.specs.Prelude.{◌≡◌, true};
 ghost use Rattle.checks.specs.Checks.{call_of};
 ghost use Rattle.gate.specs.Layout.{LaidOut, sound_state, Roomy, Given, outcome, call_on};
@@ -12,7 +12,7 @@ use rules::refusal::Refusal;
 
 #[derive(Drop)]
 pub struct Gate<'a> {
-    pub head: Head,
+    pub head: &'a mut Head,
     pub queues: &'a mut [u32; 64],
     pub came: &'a mut [u64; 20],
     pub air: &'a mut [u32; 40],
@@ -46,23 +46,22 @@ impl Gate<'_> {
         ensures lent { SameRows self.old self.new }
         ensures roomy { Roomy (state_on self.new) }
     {
-        let given = self.head;
-        if let Err(refusal) = given.check(self.queues, self.came, request, stamp) {
+        if let Err(refusal) = self.head.check(self.queues, self.came, request, stamp) {
             return Answer::from(refusal);
         }
-        let next = given.advance(self.air, stamp);
+        self.head.advance(self.air, stamp);
         if let Request::Count(busy, probes) = request {
-            self.head = next.steer(self.loads, self.above, rules::load(busy, probes));
+            self.head
+                .steer(self.loads, self.above, rules::load(busy, probes));
             return Answer::Taken;
         }
-        let cleared = next.clear(self.queues, self.came);
+        self.head.clear(self.queues, self.came);
         if let Request::Offered(o) = request {
-            self.head = cleared.join(self.queues, self.came, o);
+            self.head.join(self.queues, self.came, o);
             return Answer::Taken;
         }
-        let turn = cleared.serve(self.queues, self.came, self.air, self.waits);
-        self.head = turn.head;
-        turn.answer
+        self.head
+            .serve(self.queues, self.came, self.air, self.waits)
     }
 
     // One call. A state that is not sound is refused with 9.

@@ -11,5 +11,5 @@ returns c =
     let rec = c.args.rec in
     let e = c.make_in-made.ensures
     ∙ ap₂ (λ (profile : ℕ) (list : Levels). make_state (making_of profile rec.lifetime list rec.stamp))
-    c.profile_in-profile.ensures c.none.ensures in
+    c.profile_in-profile.ensures c.none-list.ensures in
     record { made = e; told = make_tells _ _ e }

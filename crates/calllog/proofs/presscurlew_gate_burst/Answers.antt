@@ -40,8 +40,8 @@ returns c =
       state = rw taken
           (search (rules, c.keep.ensures, t.ensures.lent)
           ∙ t.ensures.state
-          ∙ ap (λ (x : Head). offered_to (rows x) records (records_in records)) c.head_at.ensures);
+          ∙ ap (λ (x : Head). offered_to (rows x) records (records_in records)) c.head_at-head.ensures);
       answers = rw taken
           (t.ensures.answers
-          ∙ ap (λ (x : Head). written a.answers.now 0 (answers_to (rows x) records (records_in records))) c.head_at.ensures);
+          ∙ ap (λ (x : Head). written a.answers.now 0 (answers_to (rows x) records (records_in records))) c.head_at-head.ensures);
     }

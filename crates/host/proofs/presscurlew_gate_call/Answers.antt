@@ -13,7 +13,7 @@ pub returns : goal.returns
 returns c =
     handed_on _ _ _ _ _ (search (rules, c.keep.ensures, c.step_sound-answer.ensures.lent)) c.from.ensures
     (c.step_sound-answer.ensures.done
-    ∙ known _ _ _ _ _ _ _ _ c.head_at.ensures _ _ _ _ _ _ _
+    ∙ known _ _ _ _ _ _ _ _ c.head_at-head.ensures _ _ _ _ _ _ _
     (sym c.lies_within.ensures ∙ c.if-not-lies_within.false) (c.request_of.ensures _))
 
 pub returns-then-not-is_sound : goal.returns-then-not-is_sound
@@ -23,5 +23,5 @@ returns-then-not-is_sound c =
 
 pub step_sound-answer-requires : goal.step_sound-answer-requires
 step_sound-answer-requires c =
-    given _ _ _ _ _ _ _ _ c.head_at.ensures
+    given _ _ _ _ _ _ _ _ c.head_at-head.ensures
     (c.is_sound.ensures.given (c.if-not-is_sound.false))

@@ -7,5 +7,5 @@ pub overflow_cast-self-2 : goal.overflow_cast-self-2
 overflow_cast-self-2 c =
     search (
       rules,
-      aged_few c.args.self c.args.air.now _ _ _ c.requires.tight c.age-n.ensures,
+      aged_few c.args.self.now c.args.air.now _ _ _ c.requires.tight c.age-n.ensures,
     )

@@ -13,7 +13,7 @@ returns-in_err-clock c =
     let e = c.in_err-clock in
     let a = c.args in
     rw (p.1, p.2)
-    (by_clock a.self (waiting_in (rows a.queues.now a.came.now)) a.request a.stamp _ e.ensures.number
+    (by_clock a.self.now (waiting_in (rows a.queues.now a.came.now)) a.request a.stamp _ e.ensures.number
     (some_number e.field-0.0))
 
 pub returns-then-is_bad_count : goal.returns-then-is_bad_count
@@ -21,7 +21,7 @@ unfolding first_of
 returns-then-is_bad_count c =
     let a = c.args in
     let k = c.in_ok-clock.ensures in
-    by_request a.self (waiting_in (rows a.queues.now a.came.now)) a.request a.stamp _ _ _
+    by_request a.self.now (waiting_in (rows a.queues.now a.came.now)) a.request a.stamp _ _ _
     k.number k.moved c.in-Count.is (rw (sym c.if-is_bad_count.ensures))
 
 pub returns-else-is_bad_count : goal.returns-else-is_bad_count
@@ -29,14 +29,14 @@ unfolding first_of
 returns-else-is_bad_count c =
     let a = c.args in
     let k = c.in_ok-clock.ensures in
-    by_request a.self (waiting_in (rows a.queues.now a.came.now)) a.request a.stamp _ _ _
+    by_request a.self.now (waiting_in (rows a.queues.now a.came.now)) a.request a.stamp _ _ _
     k.number k.moved c.in-Count.is (rw (sym c.if-is_bad_count.ensures))
 
 pub returns-in-Offered : goal.returns-in-Offered
 returns-in-Offered c =
     let a = c.args in
     let k = c.in_ok-clock.ensures in
-    by_request a.self (waiting_in (rows a.queues.now a.came.now)) a.request a.stamp _ _ _
+    by_request a.self.now (waiting_in (rows a.queues.now a.came.now)) a.request a.stamp _ _ _
     k.number k.moved c.in-Offered.is c.check_offer.ensures
 
 pub returns-in-Poll : goal.returns-in-Poll
@@ -44,5 +44,5 @@ unfolding first_of
 returns-in-Poll c =
     let a = c.args in
     let k = c.in_ok-clock.ensures in
-    by_request a.self (waiting_in (rows a.queues.now a.came.now)) a.request a.stamp _ _ _
+    by_request a.self.now (waiting_in (rows a.queues.now a.came.now)) a.request a.stamp _ _ _
     k.number k.moved c.in-Poll.is refl

@@ -13,4 +13,4 @@ overflow_add-self c =
 pub returns-clause-done : goal.returns-clause-done
 returns-clause-done c =
     let e = c.expire_all.ensures in
-    cleared_by c.args.self _ _ _ e.gone e.left
+    cleared_by c.args.self.now _ _ _ e.gone e.left

@@ -8,8 +8,8 @@ use Rattle.gate.proofs.Head.steer.Goals as goal
 pub returns-then-self-ne-LISTED-clause-done : goal.returns-then-self-ne-LISTED-clause-done
 returns-then-self-ne-LISTED-clause-done c =
     let a = c.args in
-    steered_by a.self a.load a.above.now a.loads.now _ _ _
-    (sampled-unlisted (control_for a.self a.above.now a.loads.now) a.load _ _ c.tuning_after-self.ensures
+    steered_by a.self.now a.load a.above.now a.loads.now _ _ _
+    (sampled-unlisted (control_for a.self.now a.above.now a.loads.now) a.load _ _ c.tuning_after-self.ensures
     c.if-self-ne-LISTED.true)
 
 pub overflow_cast-self-3 : goal.overflow_cast-self-3
@@ -19,6 +19,6 @@ pub returns-clause-done : goal.returns-clause-done
 unfolding noted_if
 returns-clause-done c =
     let a = c.args in
-    steered_by a.self a.load a.above.now a.loads.now _ _ _
-    (sampled-listed (control_for a.self a.above.now a.loads.now) a.load _ _ c.tuning_after-self-2.ensures _
+    steered_by a.self.now a.load a.above.now a.loads.now _ _ _
+    (sampled-listed (control_for a.self.now a.above.now a.loads.now) a.load _ _ c.tuning_after-self-2.ensures _
     c.if-self-ne-LISTED.false c.note_load-n.ensures c.level_after-level.ensures)

@@ -1,12 +1,10 @@
 -- Refused, or its steps one after the other.
-use mathlib.Core.Path.{◌≡◌, ap, ◌∙◌, refl}
+use mathlib.Core.Path.{ap, ◌∙◌}
 use native.Mathlib.Omega.{arith}
-use borrow.Author.Rules.{rules}
 use Rattle.rules.proofs.Probes.{load_le}
 use Rattle.gate.specs.Layout.{outcome, Given}
 use Rattle.gate.specs.Lent.{state_on}
 use Rattle.gate.specs.Steps.{Settled}
-use Rattle.gate.specs.declared.State.{State}
 use Rattle.gate.specs.declared.lent.Gate.{Gate}
 use Rattle.gate.proofs.Views.{known}
 use Rattle.gate.proofs.Judged.{settled}
@@ -35,8 +33,8 @@ returns-in-Err-clause-done c =
     ap (outcome given) c.from.ensures
     ∙ refused given a.request a.stamp c.requires.judged_sound _ c.in-Err.ensures (some_number c.in-Err.refusal)
 
-pub advance-next-requires : goal.advance-next-requires
-advance-next-requires c = let g = c.args.self.now in advanceable (state_on g) (laid g c.requires)
+pub advance-requires : goal.advance-requires
+advance-requires c = let g = c.args.self.now in advanceable (state_on g) (laid g c.requires)
 
 pub load-requires : goal.load-requires
 load-requires c =
@@ -45,12 +43,12 @@ load-requires c =
     good_count given a.stamp _ _
     (enters given a.request a.stamp c.requires.judged_sound _ c.in_default.ensures c.in-Count.is)
 
-pub steer-self-requires : goal.steer-self-requires
-steer-self-requires c =
+pub steer-requires : goal.steer-requires
+steer-requires c =
     let a = c.args in
     let given = state_on a.self.now in
     let passed = enters given a.request a.stamp c.requires.judged_sound _ c.in_default.ensures c.in-Count.is in record {
-      steerable = still_steerable given (laid a.self.now c.requires) a.stamp _ _ c.advance-next.ensures.done;
+      steerable = still_steerable given (laid a.self.now c.requires) a.stamp _ _ c.advance.ensures.done;
       load_le_full_load = omega (arith, c.load.ensures, load_le _ _ (good_count given a.stamp _ _ passed));
     }
 
@@ -60,20 +58,20 @@ returns-in-Count-clause-done c =
     let given = state_on a.self.now in
     let passed = enters given a.request a.stamp c.requires.judged_sound _ c.in_default.ensures c.in-Count.is in
     called given a.request a.stamp c.requires.judged_sound c.in-Count.is
-    (sample_taken given _ _ _ _ a.stamp _ _ _ (laid a.self.now c.requires).tight c.advance-next.ensures.done
-    c.steer-self.ensures.done c.load.ensures passed)
+    (sample_taken given _ _ _ _ a.stamp _ _ _ (laid a.self.now c.requires).tight c.advance.ensures.done
+    c.steer.ensures.done c.load.ensures passed)
 
-pub clear-cleared-requires : goal.clear-cleared-requires
-clear-cleared-requires c =
+pub clear-requires : goal.clear-requires
+clear-requires c =
     let a = c.args in
-    clearable (state_on a.self.now) (laid a.self.now c.requires) a.stamp _ _ c.advance-next.ensures.done
+    clearable (state_on a.self.now) (laid a.self.now c.requires) a.stamp _ _ c.advance.ensures.done
 
-pub join-self-requires : goal.join-self-requires
-join-self-requires c =
+pub join-requires : goal.join-requires
+join-requires c =
     let a = c.args in
     let given = state_on a.self.now in
     let passed = enters given a.request a.stamp c.requires.judged_sound _ c.in_default.ensures c.in-Offered.is in
-    joinable given a.stamp _ passed _ _ _ _ _ c.advance-next.ensures.done c.clear-cleared.ensures.done
+    joinable given a.stamp _ passed _ _ _ _ _ c.advance.ensures.done c.clear.ensures.done
 
 pub returns-in-Offered-clause-done : goal.returns-in-Offered-clause-done
 returns-in-Offered-clause-done c =
@@ -81,16 +79,16 @@ returns-in-Offered-clause-done c =
     let given = state_on a.self.now in
     let passed = enters given a.request a.stamp c.requires.judged_sound _ c.in_default.ensures c.in-Offered.is in
     called given a.request a.stamp c.requires.judged_sound c.in-Offered.is
-    (offer_taken given a.stamp _ passed _ _ _ _ _ c.advance-next.ensures.done c.clear-cleared.ensures.done _ _ _
-    c.join-self.ensures.done)
+    (offer_taken given a.stamp _ passed _ _ _ _ _ c.advance.ensures.done c.clear.ensures.done _ _ _
+    c.join.ensures.done)
 
-pub serve-turn-requires : goal.serve-turn-requires
-serve-turn-requires c =
+pub serve-requires : goal.serve-requires
+serve-requires c =
     let a = c.args in
     let given = state_on a.self.now in
     let polled = is_polled a.request c.in_default-request.not-Count c.in_default-request-2.not-Offered in
     let passed = enters given a.request a.stamp c.requires.judged_sound _ c.in_default.ensures polled in
-    servable given a.stamp passed _ _ _ _ _ c.advance-next.ensures.done c.clear-cleared.ensures.done
+    servable given a.stamp passed _ _ _ _ _ c.advance.ensures.done c.clear.ensures.done
 
 pub returns-clause-done : goal.returns-clause-done
 returns-clause-done c =
@@ -99,15 +97,15 @@ returns-clause-done c =
     let polled = is_polled a.request c.in_default-request.not-Count c.in_default-request-2.not-Offered in
     let passed = enters given a.request a.stamp c.requires.judged_sound _ c.in_default.ensures polled in
     called given a.request a.stamp c.requires.judged_sound polled
-    (poll_served given a.stamp passed _ _ _ _ _ c.advance-next.ensures.done c.clear-cleared.ensures.done _ _ _ _ _
-    c.serve-turn.ensures.done)
+    (poll_served given a.stamp passed _ _ _ _ _ c.advance.ensures.done c.clear.ensures.done _ _ _ _ _
+    c.serve.ensures.done)
 
 pub returns-in-Count-clause-roomy : goal.returns-in-Count-clause-roomy
 returns-in-Count-clause-roomy c =
     let r = c.requires.roomy in record {
       queues = r.queues;
-      air = c.advance-next.ensures.places;
-      loads = c.steer-self.ensures.places;
+      air = c.advance.ensures.places;
+      loads = c.steer.ensures.places;
       above = r.above;
       waits = r.waits;
     }
@@ -115,8 +113,8 @@ returns-in-Count-clause-roomy c =
 pub returns-in-Offered-clause-roomy : goal.returns-in-Offered-clause-roomy
 returns-in-Offered-clause-roomy c =
     let r = c.requires.roomy in record {
-      queues = c.join-self.ensures.places;
-      air = c.advance-next.ensures.places;
+      queues = c.join.ensures.places;
+      air = c.advance.ensures.places;
       loads = r.loads;
       above = r.above;
       waits = r.waits;
@@ -125,7 +123,7 @@ returns-in-Offered-clause-roomy c =
 pub returns-clause-roomy : goal.returns-clause-roomy
 returns-clause-roomy c =
     let r = c.requires.roomy in
-    let served = c.serve-turn.ensures.places in record {
+    let served = c.serve.ensures.places in record {
       queues = served.0;
       air = served.1;
       loads = r.loads;
