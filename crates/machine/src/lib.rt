@@ -253,7 +253,7 @@ pub fn level_after<'a>(n: usize, above: &'a [u32], held: usize, slots: &'a [u32]
 {
     let up = highest_reached(n, above, low(held, slots));
     let down = highest_reached(n, above, high(held, slots));
-    level.clamp(up, down)
+    level.max(up).min(down)
 }
 
 impl Levels {
@@ -283,11 +283,13 @@ impl Levels {
         is_list_sound(self.len, self.wait, &self.above, &self.waits)
     }
 
-    // Whether there is no list, as in other profiles.
+    // Whether there is no list, as in other profiles. All is read, with no way out before the end.
     pub fn is_none(self) -> bool
         ensures { result ≡ none_listed self }
     {
-        self == Levels::none()
+        let above = are_zero(&self.above);
+        let waits = are_zero(&self.waits);
+        (self.len == 0) & (self.wait == 0) & above & waits
     }
 
     // The list as a state keeps it: the levels that it has, and zeros behind them.

@@ -71,43 +71,42 @@ fn refuses_full(oldway: u32, l: Line, priority: u32) -> bool
     line::MOST_OF_A_PRIORITY <= line::count_of(l, priority)
 }
 
-// Whether a ledger is sound.
-fn is_ledger_sound(l: Ledger, profile: u32, time: u64, last: Last) -> bool
+// Whether a ledger is sound; one that is holds nothing but its admissions.
+fn is_ledger_sound(l: &Ledger, profile: u32, time: u64, last: Last) -> bool
     requires { time ≤ end_of_time }
-    ensures { result ≡ ledger.sound_ledger profile time last l }
+    ensures exact { result ≡ ledger.sound_ledger profile time last l.now }
+    ensures tight { result ≡ true → ledger.Packed last.at l.now }
 {
     ledger::is_sound(l.len, &l.slots, profile, time, last)
 }
 
 // The ledger without the admissions that have aged. Its base is the time of the last admission.
-fn age(mut l: Ledger, base: u64, time: u64) -> Ledger
-    requires packed { ledger.Packed base l }
-    requires in_order { ledger.InOrder (ledger.items base l) }
-    ensures { result ≡ ledger.packed base (young time (ledger.items base l)) }
+fn age(l: &mut Ledger, base: u64, time: u64)
+    requires packed { ledger.Packed base l.old }
+    requires in_order { ledger.InOrder (ledger.items base l.old) }
+    ensures { l.new ≡ ledger.packed base (young time (ledger.items base l.old)) }
 {
     l.len = ledger::age(l.len, &mut l.slots, base, time);
-    l
 }
 
 // The ledger, none of it aged, with one more admission, which is the last from then on: its time is the base.
-fn note(mut l: Ledger, base: u64, at: u64, ontime: u32) -> Ledger
-    requires packed { ledger.Packed base l }
-    requires len_lt_forty { l.len < forty }
+fn note(l: &mut Ledger, base: u64, at: u64, ontime: u32)
+    requires packed { ledger.Packed base l.old }
+    requires len_lt_forty { l.old.len < forty }
     requires base_le_at { base ≤ at }
-    requires l_value { young at (ledger.items base l) ≡ ledger.items base l }
-    ensures { result ≡ ledger.packed at (ledger.items base l ++ (ledger.admission at ontime ∷ [])) }
+    requires l_value { young at (ledger.items base l.old) ≡ ledger.items base l.old }
+    ensures { l.new ≡ ledger.packed at (ledger.items base l.old ++ (ledger.admission at ontime ∷ [])) }
 {
     ledger::note(l.len, &mut l.slots, base, at, ontime);
     l.len += 1;
-    l
 }
 
 // The µs until the air allows a packet.
-fn air_left(l: Ledger, base: u64, ontime: u32, time: u64) -> u64
-    requires len_le_forty { l.len ≤ forty }
-    requires l_bound { air_of (ledger.items base l) ≤ most_air }
-    requires timely { ledger.Timely (ledger.items base l) }
-    ensures { result ≡ allowed_from ontime time (ledger.items base l) - time }
+fn air_left(l: &Ledger, base: u64, ontime: u32, time: u64) -> u64
+    requires len_le_forty { l.now.len ≤ forty }
+    requires l_bound { air_of (ledger.items base l.now) ≤ most_air }
+    requires timely { ledger.Timely (ledger.items base l.now) }
+    ensures { result ≡ allowed_from ontime time (ledger.items base l.now) - time }
 {
     ledger::air_left(l.len, &l.slots, base, ontime, time)
 }
@@ -125,6 +124,14 @@ impl State {
     pub fn is_sound(self) -> bool
         ensures exact { result ≡ sound_state self }
         ensures tight { result ≡ true → LaidOut self }
+    {
+        self.judge()
+    }
+
+    // Whether a state is sound, where it lies: each call asks it, and a state is a kilobyte.
+    fn judge(&self) -> bool
+        ensures exact { result ≡ sound_state self.now }
+        ensures tight { result ≡ true → LaidOut self.now }
     {
         if self.live != 1 {
             return false;
@@ -148,7 +155,7 @@ impl State {
         if !checks::are_counts_sound(self.counts, self.line.len as u64) {
             return false;
         }
-        is_ledger_sound(self.ledger, self.profile, now, self.last)
+        is_ledger_sound(&self.ledger, self.profile, now, self.last)
     }
 
     // A refusal hands back the given state unchanged.
@@ -162,11 +169,11 @@ impl State {
     }
 
     // The checks of every call.
-    fn check(self, stamp: u32) -> Result<(), Refusal>
-        ensures exact { number_in result ≡ entry_number self stamp }
-        ensures tight { IsOk result → LaidOut self }
+    fn check(&self, stamp: u32) -> Result<(), Refusal>
+        ensures exact { number_in result ≡ entry_number self.now stamp }
+        ensures tight { IsOk result → LaidOut self.now }
     {
-        if !self.is_sound() {
+        if !self.judge() {
             return Err(Refusal::NoState);
         }
         checks::clock_after(self.clock, stamp)?;
@@ -175,35 +182,34 @@ impl State {
 
     // The clock moves, and admissions of the last second are dropped that have aged. This and the next ask
     // for a state that was judged: a type for it would be made and taken apart in each call.
-    fn advance(mut self, stamp: u32) -> State
-        requires { Given self }
-        ensures { result ≡ state_of (moved (view_of self) stamp) }
+    fn advance(&mut self, stamp: u32)
+        requires { Given self.old }
+        ensures { self.new ≡ state_of (moved (view_of self.old) stamp) }
     {
         let clock = checks::clock_at(self.clock, stamp);
-        self.ledger = age(self.ledger, self.last.at, clock.time);
+        age(&mut self.ledger, self.last.at, clock.time);
         self.clock = clock;
-        self
     }
 
     // First the clock moves, then every expired packet goes.
-    fn refresh(mut self, stamp: u32) -> State
-        requires { Given self }
-        ensures { result ≡ state_of (refreshed (view_of self) stamp) }
+    fn refresh(&mut self, stamp: u32)
+        requires { Given self.old }
+        ensures { self.new ≡ state_of (refreshed (view_of self.old) stamp) }
     {
-        let mut s = self.advance(stamp);
-        let left = line::expire(s.line, s.clock.time);
-        let gone = s.line.len - left.len;
-        s.counts.expired += gone as u64;
-        s.line = left;
-        s
+        let held = self.line.len;
+        self.advance(stamp);
+        let left = line::expire(self.line, self.clock.time);
+        let gone = held - left.len;
+        self.counts.expired += gone as u64;
+        self.line = left;
     }
 
     // A sample's load moves what samples steer. In profile 5 it is noted first, so that it counts.
-    fn steer(mut self, load: u32) -> State
-        requires laid_out { LaidOut self }
-        requires steerable { Steerable self.profile self.tuning }
+    fn steer(&mut self, load: u32)
+        requires laid_out { LaidOut self.old }
+        requires steerable { Steerable self.old.profile self.old.tuning }
         requires load_le_full_load { load ≤ full_load }
-        ensures { result ≡ state_of (with_control (view_of self) (sampled (control_on self) load)) }
+        ensures { self.new ≡ state_of (with_control (view_of self.old) (sampled (control_on self.old) load)) }
     {
         let tuning = self.tuning;
         let levels = self.levels;
@@ -215,13 +221,12 @@ impl State {
         }
         self.tuning = control::tuning_after(self.profile, tuning, level, load);
         self.loads = loads;
-        self
     }
 
     // The checks of a sample.
-    fn check_count(self, busy: u32, probes: u32, stamp: u32) -> Result<(), Refusal>
-        ensures exact { number_in result ≡ first_of (checks_on self (count stamp busy probes)) }
-        ensures tight { IsOk result → LaidOut self }
+    fn check_count(&self, busy: u32, probes: u32, stamp: u32) -> Result<(), Refusal>
+        ensures exact { number_in result ≡ first_of (checks_on self.now (count stamp busy probes)) }
+        ensures tight { IsOk result → LaidOut self.now }
     {
         self.check(stamp)?;
         if rules::is_bad_count(busy, probes) {
@@ -237,9 +242,10 @@ impl State {
         if let Err(refusal) = self.check_count(busy, probes, stamp) {
             return self.refused(refusal);
         }
-        let s = self.advance(stamp);
+        self.advance(stamp);
+        self.steer(rules::load(busy, probes));
         Outcome {
-            state: s.steer(rules::load(busy, probes)),
+            state: self,
             answer: Answer::Taken,
         }
     }
@@ -255,10 +261,11 @@ impl State {
     }
 
     // The checks of an offer that look at none that wait.
-    fn check_offer(self, o: Offer, stamp: u32) -> Result<(), Refusal>
+    fn check_offer(&self, o: Offer, stamp: u32) -> Result<(), Refusal>
         ensures exact { number_in result
-            ≡ first_of (clock_checks (sound_state self) self.clock stamp (number_checks self.profile o)) }
-        ensures tight { IsOk result → LaidOut self }
+            ≡ first_of (clock_checks (sound_state self.now) self.now.clock stamp
+            (number_checks self.now.profile o)) }
+        ensures tight { IsOk result → LaidOut self.now }
     {
         self.check(stamp)?;
         checks::check_offer(self.profile, o)
@@ -266,9 +273,9 @@ impl State {
 
     // The checks that come last, once the expired are gone: of the old way, five of a priority wait; and too
     // many were accepted.
-    fn check_room(self, priority: u32) -> Result<(), Refusal>
-        ensures { number_in result ≡ first_of (room_checks self.oldway (count_of priority (items self.line))
-            self.counts.accepted) }
+    fn check_room(&self, priority: u32) -> Result<(), Refusal>
+        ensures { number_in result ≡ first_of (room_checks self.now.oldway
+            (count_of priority (items self.now.line)) self.now.counts.accepted) }
     {
         if refuses_full(self.oldway, self.line, priority) {
             return Err(Refusal::QueueFull);
@@ -280,10 +287,10 @@ impl State {
     }
 
     // A packet joins the line. Where five of its priority wait, the first of those leaves for it.
-    fn join(mut self, p: Packet) -> State
-        requires given { Given self }
+    fn join(&mut self, p: Packet)
+        requires given { Given self.old }
         requires priority_le_last_priority { p.priority ≤ last_priority }
-        ensures { result ≡ state_of (joined (room_made (view_of self) p.priority) p) }
+        ensures { self.new ≡ state_of (joined (room_made (view_of self.old) p.priority) p) }
     {
         let mut line = self.line;
         let mut counts = self.counts;
@@ -294,7 +301,6 @@ impl State {
         }
         self.line = line::push(line, p);
         self.counts = counts;
-        self
     }
 
     // A packet offered.
@@ -304,46 +310,49 @@ impl State {
         if let Err(refusal) = self.check_offer(o, stamp) {
             return self.refused(refusal);
         }
-        let s = self.refresh(stamp);
+        let mut s = self;
+        s.refresh(stamp);
         if let Err(full) = s.check_room(o.priority) {
             return self.refused(full);
         }
+        let p = checks::packet_of(o, s.clock.time);
+        s.join(p);
         Outcome {
-            state: s.join(checks::packet_of(o, s.clock.time)),
+            state: s,
             answer: Answer::Taken,
         }
     }
 
     // The µs until a packet may go: what is left of the wait, or until the air allows it.
-    fn left_for(self, p: Packet) -> u64
-        requires { Given self }
-        ensures { result ≡ max (wait_left (view_of self)) (air_left (view_of self) p) }
+    fn left_for(&self, p: Packet) -> u64
+        requires { Given self.now }
+        ensures { result ≡ max (wait_left (view_of self.now)) (air_left (view_of self.now) p) }
     {
         let last = self.last;
         let now = self.clock.time;
         let listed = self.levels.wait(self.tuning.level);
         let closed = control::closed_after(self.profile, self.tuning, listed, last.ontime);
         let left = checks::left_of(closed, last, now);
-        let late = air_left(self.ledger, last.at, p.ontime, now);
+        let late = air_left(&self.ledger, last.at, p.ontime, now);
         checks::longer(left, late)
     }
 
     // A packet goes: it leaves the line and is noted as the last admission.
-    fn admit(mut self, p: Packet) -> State
-        requires given { Given self }
-        requires len_lt_forty { self.ledger.len < forty }
-        ensures { result ≡ state_of (admits (view_of self) p (without p.priority (items self.line))) }
+    fn admit(&mut self, p: Packet)
+        requires given { Given self.old }
+        requires len_lt_forty { self.old.ledger.len < forty }
+        ensures { self.new ≡ state_of (admits (view_of self.old) p
+            (without p.priority (items self.old.line))) }
     {
         let now = self.clock.time;
         self.line = line::remove(self.line, p.priority);
-        self.ledger = note(self.ledger, self.last.at, now, p.ontime);
+        note(&mut self.ledger, self.last.at, now, p.ontime);
         self.last = Last {
             at: now,
             ontime: p.ontime,
             admitted: 1,
         };
         self.counts.sent += 1;
-        self
     }
 
     // Whether a packet may go, and which.
@@ -353,23 +362,24 @@ impl State {
         if let Err(refusal) = self.check(stamp) {
             return self.refused(refusal);
         }
-        let s = self.refresh(stamp);
-        if s.line.len == 0 {
+        self.refresh(stamp);
+        if self.line.len == 0 {
             return Outcome {
-                state: s,
+                state: self,
                 answer: Answer::Idle,
             };
         }
-        let p = line::pick(s.line);
-        let left = s.left_for(p);
+        let p = line::pick(self.line);
+        let left = self.left_for(p);
         if left != 0 {
             return Outcome {
-                state: s,
+                state: self,
                 answer: Answer::Closed(left),
             };
         }
+        self.admit(p);
         Outcome {
-            state: s.admit(p),
+            state: self,
             answer: Answer::Sent(p),
         }
     }

@@ -10,6 +10,6 @@ use Rattle.line.proofs.are_counts_sound.Goals as goal
 pub returns : goal.returns
 returns c =
     let n = c.new.ensures in
-    let test : ℕ → Bool = λ k. at_most_five k (items c.args.l) in
+    let test : ℕ → Bool = λ k. at_most_five k (items c.args.l.now) in
     all_from_yields_List test _ _ _ c.all.ensures.ran (given c.new.result) (λ x b q k. search (rules, tests))
     ∙ ap (list_all test) (unspent c.new.result 0 3 n.start n.end n.exhausted)

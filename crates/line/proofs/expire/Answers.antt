@@ -19,7 +19,7 @@ loop-p-preserved c =
       | then-is_unexpired w ↦
           rw w.left-is
           (taken _ _ _ i _ _ _ (omega arith) (kept_live ps i c.loop-p-test.true now (live ∙ w.if-is_unexpired.true))
-          w.push-left.ensures c.loop-p.invariant)
+          w.keep.ensures c.loop-p.invariant)
       | else-is_unexpired w ↦
           rw w.left-is
           (passed _ _ _ i _ (not_kept ps i c.loop-p-test.true now (live ∙ w.if-is_unexpired.false)) c.loop-p.invariant)

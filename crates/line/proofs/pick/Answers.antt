@@ -9,9 +9,9 @@ use Rattle.line.proofs.pick.Goals as goal
 
 pub returns : goal.returns
 returns c =
-    let ps = c.waiting.result.now in
+    let ps = c.waiting-packets.result.now in
     c.unwrap_or.ensures
     ∙ ap (unwrap_or c.min_by_key.result) (search rules)
     ∙ first_least _ _ (λ x k q h. search (rules, tests)) _ _ ps c.min_by_key.ensures.ran
     (YieldsList-from_copied (YieldsList-at c.copied.ensures.source (YieldsList-from_slice ps (cc))))
-    ∙ ap goes_next c.waiting.ensures.0
+    ∙ ap goes_next c.waiting-packets.ensures.0

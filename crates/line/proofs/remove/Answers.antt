@@ -28,7 +28,7 @@ loop-p-preserved c =
             | else-not-gone-via-then-not-gone+else-p-priority v ↦ stays ps i h _ k v.if-not-gone.true v.if-p-priority.false
             | else-not-gone-via-else-not-gone v ↦ after_gone ps i h _ k v.if-not-gone.false
           ])
-          w.push-left.ensures c.loop-p.invariant)
+          w.keep.ensures c.loop-p.invariant)
     ]
 
 pub returns : goal.returns

@@ -6,8 +6,8 @@ use Rattle.plain.proofs.State.advance.Goals as goal
 pub clock_at-clock-requires : goal.clock_at-clock-requires
 clock_at-clock-requires c = (known _ c.requires).groups.time
 
-pub age-self-requires : goal.age-self-requires
-age-self-requires c =
+pub age-requires : goal.age-requires
+age-requires c =
     let k = known _ c.requires in record {
       packed = k.ledger_tight;
       in_order = k.ordered;
@@ -15,4 +15,4 @@ age-self-requires c =
 
 pub returns : goal.returns
 returns c =
-    advanced c.args.self c.args.stamp _ _ c.requires.0 c.clock_at-clock.ensures c.age-self.ensures
+    advanced c.args.self.now c.args.stamp _ _ c.requires.0 c.clock_at-clock.ensures c.age.ensures

@@ -23,14 +23,15 @@ returns c =
     let p = c.args.p in
     elim c.if-count_of-ge-MOST_OF_A_PRIORITY.branch [
       | then-count_of-ge-MOST_OF_A_PRIORITY w ↦
-          let full : 5 ≤ count_of p.priority (items c.args.self.line) =
+          let full : 5 ≤ count_of p.priority (items c.args.self.now.line) =
           omega (arith, w.if-count_of-ge-MOST_OF_A_PRIORITY.true, c.count_of.ensures) in
-          let g = room_full c.args.self p.priority _ k full (w.line-is ∙ w.remove-line.ensures) in
-          joins_full c.args.self p _ _ _ c.requires.given.0 (c.push-self.ensures ∙ pushes _ p g.0 g.1) full
+          let g = room_full c.args.self.now p.priority _ k full (w.line-is ∙ w.remove-line.ensures) in
+          joins_full c.args.self.now p _ _ _ c.requires.given.0 (c.push-self.ensures ∙ pushes _ p g.0 g.1) full
           (w.line-is ∙ w.remove-line.ensures) w.counts-is
       | else-count_of-ge-MOST_OF_A_PRIORITY w ↦
-          let free : count_of p.priority (items c.args.self.line) < 5 =
+          let free : count_of p.priority (items c.args.self.now.line) < 5 =
           omega (arith, w.if-count_of-ge-MOST_OF_A_PRIORITY.false, c.count_of.ensures) in
-          let g = room_free c.args.self p.priority _ k c.requires.priority_le_last_priority free w.line-is in
-          joins_free c.args.self p _ _ _ c.requires.given.0 (c.push-self.ensures ∙ pushes _ p g.0 g.1) free w.line-is w.counts-is
+          let g = room_free c.args.self.now p.priority _ k c.requires.priority_le_last_priority free w.line-is in
+          let put = c.push-self.ensures ∙ pushes _ p g.0 g.1 in
+          joins_free c.args.self.now p _ _ _ c.requires.given.0 put free w.line-is w.counts-is
     ]

@@ -27,7 +27,7 @@ air_left-late-requires c =
 
 pub returns : goal.returns
 returns c =
-    let s = c.args.self in
+    let s = c.args.self.now in
     c.longer.ensures
     ∙ ap₂ max
     (c.left_of-left.ensures

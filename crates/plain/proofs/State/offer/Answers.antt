@@ -19,8 +19,8 @@ returns-in-Err c =
     ∙ refused_in_order a.self (offer a.stamp a.o) (number_checks a.self.profile a.o) _ c.in-Err.ensures.exact
     (λ n e some. own_first a.self.profile a.o _ n e some)
 
-pub refresh-s-requires : goal.refresh-s-requires
-refresh-s-requires c =
+pub refresh-requires : goal.refresh-requires
+refresh-requires c =
     let a = c.args in
     let passes = c.in_default.ensures in
     given a.self a.stamp (passes.tight refl) (passed a.self a.stamp (number_checks a.self.profile a.o) passes.exact).0
@@ -32,7 +32,7 @@ returns-in-Err-check_room c =
     let p = passed a.self a.stamp (number_checks a.self.profile a.o) c.in_default.ensures.exact in
     c.refused-in-Err-check_room.ensures
     ∙ own_refused engine a.self (offer a.stamp a.o) (entered a.self a.stamp (sym p.0)) _
-    (room_last a.self a.stamp a.o c.refresh-s.result c.refresh-s.ensures (sym p.1)
+    (room_last a.self a.stamp a.o c.refresh.new.self c.refresh.ensures (sym p.1)
     ∙ sym c.in-Err-check_room.ensures) (some_number _)
 
 pub join-requires : goal.join-requires
@@ -40,9 +40,9 @@ unfolding sound_state
 join-requires c =
     let a = c.args in
     let p = passed a.self a.stamp (number_checks a.self.profile a.o) c.in_default.ensures.exact in
-    let priority : c.packet_of.result.priority ≡ a.o.priority =
-    ap (λ (p : Packet). p.priority) c.packet_of.ensures in record {
-      given = given_of _ _ c.refresh-s.ensures (refreshed-sound engine a.self a.stamp (entered a.self a.stamp (sym p.0)));
+    let priority : c.packet_of-p.result.priority ≡ a.o.priority =
+    ap (λ (p : Packet). p.priority) c.packet_of-p.ensures in record {
+      given = given_of _ _ c.refresh.ensures (refreshed-sound engine a.self a.stamp (entered a.self a.stamp (sym p.0)));
       priority_le_last_priority = omega (arith, priority, offer_priority a.self.profile a.o (sym p.1));
     }
 
@@ -51,6 +51,6 @@ unfolding call_on sound_state
 returns c =
     let a = c.args in
     let p = passed a.self a.stamp (number_checks a.self.profile a.o) c.in_default.ensures.exact in
-    offer_taken engine a.self a.stamp (entered a.self a.stamp (sym p.0)) a.o c.refresh-s.result c.join.result _
-    (room_last a.self a.stamp a.o c.refresh-s.result c.refresh-s.ensures (sym p.1)
-    ∙ sym c.in_default-check_room.ensures) c.refresh-s.ensures c.packet_of.ensures c.join.ensures
+    offer_taken engine a.self a.stamp (entered a.self a.stamp (sym p.0)) a.o c.refresh.new.self c.join.new.self _
+    (room_last a.self a.stamp a.o c.refresh.new.self c.refresh.ensures (sym p.1)
+    ∙ sym c.in_default-check_room.ensures) c.refresh.ensures c.packet_of-p.ensures c.join.ensures

@@ -17,8 +17,8 @@ returns-in-Err c =
     c.refused.ensures
     ∙ refused_in_order a.self call (own_checks (view_of a.self) call) _ c.in-Err.ensures.exact (λ n e some. e)
 
-pub advance-s-requires : goal.advance-s-requires
-advance-s-requires c =
+pub advance-requires : goal.advance-requires
+advance-requires c =
     let a = c.args in
     let passes = c.in_default.ensures in
     given a.self a.stamp (passes.tight refl) (counted a.self a.busy a.probes a.stamp passes.exact).0
@@ -33,8 +33,8 @@ steer-requires c =
     let passes = c.in_default.ensures in
     let p = counted a.self a.busy a.probes a.stamp passes.exact in
     let k = known _ (given a.self a.stamp (passes.tight refl) p.0) in record {
-      laid_out = advanced_laid a.self _ a.stamp c.advance-s.ensures;
-      steerable = advanced_steerable a.self _ a.stamp c.advance-s.ensures k.groups.control;
+      laid_out = advanced_laid a.self _ a.stamp c.advance.ensures;
+      steerable = advanced_steerable a.self _ a.stamp c.advance.ensures k.groups.control;
       load_le_full_load = omega (arith, c.load.ensures, load_le a.busy a.probes p.1);
     }
 
@@ -43,6 +43,6 @@ unfolding call_on sound_state
 returns c =
     let a = c.args in
     let p = counted a.self a.busy a.probes a.stamp c.in_default.ensures.exact in
-    sample_taken engine a.self a.stamp (entered a.self a.stamp (sym p.0)) a.busy a.probes c.steer.result p.1
-    (samples a.self c.advance-s.result c.steer.result a.stamp a.busy a.probes _ c.advance-s.ensures c.load.ensures
+    sample_taken engine a.self a.stamp (entered a.self a.stamp (sym p.0)) a.busy a.probes c.steer.new.self p.1
+    (samples a.self c.advance.new.self c.steer.new.self a.stamp a.busy a.probes _ c.advance.ensures c.load.ensures
     c.steer.ensures)

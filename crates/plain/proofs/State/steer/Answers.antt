@@ -19,9 +19,9 @@ tuning_after-self-requires c = record {
 
 pub returns : goal.returns
 returns c =
-    let k = control_on c.args.self in
+    let k = control_on c.args.self.now in
     let t = c.tuning_after-self in
-    steers c.args.self _ t.result _ c.requires.laid_out
+    steers c.args.self.now _ t.result _ c.requires.laid_out
     (elim c.if-self-eq-LISTED.branch [
       | then-self-eq-LISTED w ↦
           sampled-listed k c.args.load _ t.result t.ensures _ w.if-self-eq-LISTED.true (w.loads-is ∙ w.note-loads.ensures)

@@ -2,7 +2,7 @@
 use Rattle.std.proofs.Common.{sym, refl, lt-ltb}
 use Rattle.line.specs.Layout.{pushed}
 use Rattle.line.proofs.Packing.{full_stays}
-use Rattle.line.proofs.push.Goals as goal
+use Rattle.line.proofs.keep.Goals as goal
 
 pub returns-then-l-lt-PLACES : goal.returns-then-l-lt-PLACES
 unfolding pushed

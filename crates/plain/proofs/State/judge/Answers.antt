@@ -2,7 +2,6 @@
 use Prim.Native.Nat.{◌≤◌}
 use mathlib.Core.Path.{sym, ◌∙◌}
 use native.Mathlib.Omega.{arith}
-use Rattle.ledger.proofs.Sound.{sound-packed}
 use Rattle.ledger.specs.Layout.{sound_ledger}
 use Rattle.line.specs.Layout.{sound_line}
 use Rattle.line.proofs.Packing.{packed-length}
@@ -10,25 +9,25 @@ use Rattle.checks.proofs.Judged.{in_good_time, no, unsound_live, unsound_way, un
 use Rattle.checks.proofs.Judged.{unsound_waiting, unsound_counts, by_ledger}
 use Rattle.plain.specs.Layout.{sound_state}
 use Rattle.plain.proofs.Views.{engine, laid_out}
-use Rattle.plain.proofs.State.is_sound.Goals as goal
+use Rattle.plain.proofs.State.judge.Goals as goal
 
 pub returns-then-self-ne1 : goal.returns-then-self-ne1
 unfolding sound_state
-returns-then-self-ne1 c = let s = c.args.self in
+returns-then-self-ne1 c = let s = c.args.self.now in
     let all = no _ _ (unsound_live engine s c.if-self-ne1.true) in
     record { exact = all.0; tight = all.1 }
 
 pub returns-then-self-gt1 : goal.returns-then-self-gt1
 unfolding sound_state
 returns-then-self-gt1 c =
-    let s = c.args.self in
+    let s = c.args.self.now in
     let all = no _ _ (unsound_way engine s (omega (arith, c.if-self-gt1.true))) in
     record { exact = all.0; tight = all.1 }
 
 pub returns-then-not-is_sound : goal.returns-then-not-is_sound
 unfolding sound_state
 returns-then-not-is_sound c =
-    let s = c.args.self in
+    let s = c.args.self.now in
     let all = no _ _ (unsound_control engine s
     (sym c.is_sound.ensures ∙ c.if-not-is_sound.true)) in
     record { exact = all.0; tight = all.1 }
@@ -36,7 +35,7 @@ returns-then-not-is_sound c =
 pub returns-then-passes_end : goal.returns-then-passes_end
 unfolding sound_state
 returns-then-passes_end c =
-    let s = c.args.self in
+    let s = c.args.self.now in
     let all = no _ _ (unsound_time engine s
     (sym c.passes_end.ensures ∙ c.if-passes_end.true)) in
     record { exact = all.0; tight = all.1 }
@@ -44,7 +43,7 @@ returns-then-passes_end c =
 pub returns-then-not-is_last_sound : goal.returns-then-not-is_last_sound
 unfolding sound_state
 returns-then-not-is_last_sound c =
-    let s = c.args.self in
+    let s = c.args.self.now in
     let all = no _ _ (unsound_last engine s
     (sym c.is_last_sound.ensures ∙ c.if-not-is_last_sound.true)) in
     record { exact = all.0; tight = all.1 }
@@ -52,14 +51,14 @@ returns-then-not-is_last_sound c =
 pub returns-then-not-is_sound-2 : goal.returns-then-not-is_sound-2
 unfolding sound_state sound_line
 returns-then-not-is_sound-2 c =
-    let s = c.args.self in
+    let s = c.args.self.now in
     let all = no _ _ (unsound_waiting engine s (sym c.is_sound-2.ensures.exact ∙ c.if-not-is_sound-2.true)) in
     record { exact = all.0; tight = all.1 }
 
 pub returns-then-not-are_counts_sound : goal.returns-then-not-are_counts_sound
 unfolding sound_state
 returns-then-not-are_counts_sound c =
-    let s = c.args.self in
+    let s = c.args.self.now in
     let tight = c.is_sound-2.ensures.tight (c.if-not-is_sound-2.false) in
     let all = no _ _ (unsound_counts engine s _ (packed-length s.line tight)
     (sym c.are_counts_sound.ensures ∙ c.if-not-are_counts_sound.true)) in
@@ -75,7 +74,7 @@ pub returns : goal.returns
 unfolding sound_state sound_line sound_ledger
 returns c =
     let tight = c.is_sound-2.ensures.tight (c.if-not-is_sound-2.false) in
-    let g = c.args.self in
+    let g = c.args.self.now in
     let old-or-new : g.oldway ≤ 1 = omega (arith, c.if-self-gt1.false) in
     let steered = sym c.is_sound.ensures ∙ c.if-not-is_sound.false in
     let timely = sym c.passes_end.ensures ∙ c.if-passes_end.false in
@@ -84,8 +83,6 @@ returns c =
     let counted = sym c.are_counts_sound.ensures ∙ c.if-not-are_counts_sound.false in
     let same = by_ledger engine g _ (packed-length g.line tight) c.if-self-ne1.false old-or-new
     steered timely lasting lined counted in record {
-      exact = c.is_ledger_sound.ensures ∙ sym same;
-      tight = λ z. laid_out g tight
-          (sound-packed g.profile g.clock.time g.last g.ledger (sym c.is_ledger_sound.ensures ∙ z)
-          (omega arith));
+      exact = c.is_ledger_sound.ensures.exact ∙ sym same;
+      tight = λ z. laid_out g tight (c.is_ledger_sound.ensures.tight z);
     }

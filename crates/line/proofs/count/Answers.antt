@@ -3,7 +3,7 @@ use Rattle.std.proofs.Common.{◌≡◌, ap, ◌∙◌, rules, eqb}
 use Rattle.std.specs.List.{count_by}
 use Rattle.line.specs.Line.{count_of}
 use Rattle.line.proofs.Steps.{counts}
-use Rattle.line.proofs.count_of.Goals as goal
+use Rattle.line.proofs.count.Goals as goal
 
 pub returns : goal.returns
 returns c =
