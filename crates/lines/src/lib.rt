@@ -21,8 +21,8 @@ fn put(out: &mut [u8], at: usize, text: &[u8]) -> usize
 }
 
 // How many decimal digits a number has. The limit goes to 10^19, the greatest power of ten in 64 bits. This
-// and the next by hand: the kit's `io::decimal` is handed its base and fills a buffer of its own, and with it
-// a log of refused records takes 1.5 times as long.
+// and the next by hand: the kit's `io::decimal` reckons for any base, into a buffer that is copied then, and
+// with it a log of refused records takes 1.5 times as long.
 fn places(n: u64) -> usize
     ensures { IsDigitCount 10 1 n result }
 {
